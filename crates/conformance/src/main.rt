@@ -20,26 +20,27 @@ struct Report {
     differing: usize,
 }
 
-fn call(alloc: Global, name: &str, request: &Request, values: &mut Values) -> Result<(), RowError> {
-    if rows_text::call(alloc, name, request, values)?
-        || rows_paths::call(alloc, name, request, values)?
-        || rows_matchers::call(alloc, name, request, values)?
-        || rows_merges::call(alloc, name, request, values)?
-        || rows_records::call(alloc, name, request, values)?
-        || rows_trees::call(alloc, name, request, values)?
-        || rows_views::call(alloc, name, request, values)?
-        || rows_walks::call(alloc, name, request, values)?
-        || rows_program::call(alloc, name, request, values)?
-    {
-        return Ok(());
-    }
-    Err(RowError::Unreadable("no such request"))
+fn call(alloc: Global, name: &str, request: &Request, values: &mut Values) -> bool {
+    rows_text::call(alloc, name, request, values)
+        || rows_paths::call(alloc, name, request, values)
+        || rows_matchers::call(alloc, name, request, values)
+        || rows_merges::call(alloc, name, request, values)
+        || rows_records::call(alloc, name, request, values)
+        || rows_trees::call(alloc, name, request, values)
+        || rows_views::call(alloc, name, request, values)
+        || rows_walks::call(alloc, name, request, values)
+        || rows_program::call(alloc, name, request, values)
 }
 
 fn values_of(alloc: Global, request: &str) -> Result<String, RowError> {
     let mut values = Values::new(alloc);
     let (name, arguments) = Request::parse(alloc, request)?;
-    call(alloc, name, &arguments, &mut values)?;
+    if !call(alloc, name, &arguments, &mut values) {
+        return Err(RowError::Unreadable("no such request"));
+    }
+    if arguments.is_misread() {
+        return Err(RowError::Unreadable("a field is missing or not of the expected form"));
+    }
     values.into_string()
 }
 

@@ -3,13 +3,15 @@ use crate::row_error::RowError;
 use std::alloc::{AllocError, Global};
 use std::fmt;
 
-/// The values of a result. A failed allocation is recorded, and `into_string` returns the error.
+/// The values of a result. A failed allocation and an error of a request are recorded, and
+/// `into_string` returns the error.
 #[derive(Drop)]
 pub struct Values {
     alloc: Global,
     line: String,
     is_first: bool,
     failed: bool,
+    called: Result<(), RowError>,
 }
 
 const DIGITS: &[u8; 16] = b"0123456789abcdef";
@@ -51,15 +53,27 @@ impl Values {
             line: String::new(alloc),
             is_first: true,
             failed: false,
+            called: Ok(()),
         }
     }
 
-    /// Returns the values as one string; fails with `Memory` if an allocation failed before.
+    /// Returns the values as one string; fails with `Memory` if an allocation failed before, and
+    /// with the error that was recorded.
     pub fn into_string(self) -> Result<String, RowError> {
         if self.failed {
             return Err(RowError::Memory);
         }
-        Ok(self.line)
+        match self.called {
+            Ok(()) => Ok(self.line),
+            Err(error) => Err(error),
+        }
+    }
+
+    /// Records an error, unless there is an earlier one.
+    pub fn record(&mut self, called: Result<(), RowError>) {
+        if self.called.is_ok() {
+            self.called = called;
+        }
     }
 
     fn push(&mut self, string: &str) {
@@ -85,6 +99,11 @@ impl Values {
     /// Appends a byte string.
     pub fn bytes(&mut self, bytes: &[u8]) {
         self.begin_field();
+        self.append(bytes);
+    }
+
+    /// Appends bytes to the last field.
+    pub fn append(&mut self, bytes: &[u8]) {
         if push_escaped(&mut self.line, bytes).is_err() {
             self.failed = true;
         }
@@ -161,9 +180,7 @@ impl Values {
             None => self.word("~"),
             Some(string) => {
                 self.word("=");
-                if push_escaped(&mut self.line, string.as_bytes()).is_err() {
-                    self.failed = true;
-                }
+                self.append(string.as_bytes());
             }
         }
     }

@@ -25,13 +25,13 @@ fn parse_text(
 }
 
 fn parse(alloc: Global, fields: &Fields, values: &mut Values) -> Result<Option<Glob>, RowError> {
-    let separator = fields.flag(0)?;
-    let icase = fields.flag(1)?;
-    parse_text(alloc, fields.string(2)?, separator, icase, values)
+    let separator = fields.flag(0);
+    let icase = fields.flag(1);
+    parse_text(alloc, fields.string(2), separator, icase, values)
 }
 
 fn glob_parse(alloc: Global, fields: &Fields, values: &mut Values) -> Result<(), RowError> {
-    let text = fields.string(2)?;
+    let text = fields.string(2);
     let Some(glob) = parse(alloc, fields, values)? else {
         return Ok(());
     };
@@ -45,7 +45,7 @@ fn glob_match(alloc: Global, fields: &Fields, values: &mut Values) -> Result<(),
         return Ok(());
     };
     for index in 3..fields.len() {
-        values.flag(glob.is_match(fields.bytes(index)?));
+        values.flag(glob.is_match(fields.bytes(index)));
     }
     Ok(())
 }
@@ -56,7 +56,7 @@ fn glob_prefix(alloc: Global, fields: &Fields, values: &mut Values) -> Result<()
         return Ok(());
     };
     for index in 3..fields.len() {
-        values.flag(glob.is_prefix_match(fields.bytes(index)?));
+        values.flag(glob.is_prefix_match(fields.bytes(index)));
     }
     Ok(())
 }
@@ -84,7 +84,7 @@ fn glob_regex(alloc: Global, fields: &Fields, values: &mut Values) -> Result<(),
 // Appends for each field the escaped glob, and checks that it matches the field.
 fn glob_escape(alloc: Global, fields: &Fields, values: &mut Values) -> Result<(), RowError> {
     for index in 0..fields.len() {
-        let text = fields.string(index)?;
+        let text = fields.string(index);
         let escaped = escape(alloc, text)?;
         values.string(escaped.as_str());
         if let Some(glob) = parse_text(alloc, escaped.as_str(), true, false, values)? {
@@ -96,7 +96,7 @@ fn glob_escape(alloc: Global, fields: &Fields, values: &mut Values) -> Result<()
 
 // Appends for each byte whether it is special in a glob.
 fn glob_special(fields: &Fields, values: &mut Values) -> Result<(), RowError> {
-    for byte in fields.bytes(0)? {
+    for byte in fields.bytes(0) {
         values.flag(is_special(*byte));
     }
     Ok(())
@@ -104,9 +104,9 @@ fn glob_special(fields: &Fields, values: &mut Values) -> Result<(), RowError> {
 
 // Returns the first field, repeated as often as the second one says, and then the third.
 fn repeat(alloc: Global, fields: &Fields) -> Result<String, RowError> {
-    let times = fields.index(1)?;
-    let unit = fields.string(0)?;
-    let end = fields.string(2)?;
+    let times = fields.index(1);
+    let unit = fields.string(0);
+    let end = fields.string(2);
     let mut whole = String::new(alloc);
     for _ in 0..times {
         whole.push_str(unit)?;
@@ -117,8 +117,8 @@ fn repeat(alloc: Global, fields: &Fields) -> Result<String, RowError> {
 
 // Matches the repeated glob of the first group with the repeated string of the second.
 fn glob_repeat(alloc: Global, request: &Request, values: &mut Values) -> Result<(), RowError> {
-    let text = repeat(alloc, request.group(1)?)?;
-    let whole = repeat(alloc, request.group(0)?)?;
+    let text = repeat(alloc, request.group(1))?;
+    let whole = repeat(alloc, request.group(0))?;
     if let Some(glob) = parse_text(alloc, whole.as_str(), true, false, values)? {
         values.flag(glob.is_match(text.as_bytes()));
         values.flag(glob.is_prefix_match(text.as_bytes()));
@@ -138,26 +138,21 @@ fn numbered_names(alloc: Global, count: usize) -> Result<String, RowError> {
 
 // Appends for each further field whether the glob of numbered names matches it.
 fn glob_names(alloc: Global, fields: &Fields, values: &mut Values) -> Result<(), RowError> {
-    let text = numbered_names(alloc, fields.index(0)?)?;
+    let text = numbered_names(alloc, fields.index(0))?;
     let Some(glob) = parse_text(alloc, text.as_str(), true, false, values)? else {
         return Ok(());
     };
     for index in 1..fields.len() {
-        values.flag(glob.is_match(fields.bytes(index)?));
+        values.flag(glob.is_match(fields.bytes(index)));
     }
     Ok(())
 }
 
-pub(crate) fn call(
-    alloc: Global,
-    name: &str,
-    request: &Request,
-    values: &mut Values,
-) -> Result<bool, RowError> {
+pub(crate) fn call(alloc: Global, name: &str, request: &Request, values: &mut Values) -> bool {
     if !name.starts_with("glob-") {
-        return Ok(false);
+        return false;
     }
-    let fields = request.group(0)?;
+    let fields = request.group(0);
     let called = match name {
         "glob-parse" => glob_parse(alloc, fields, values),
         "glob-match" => glob_match(alloc, fields, values),
@@ -168,8 +163,8 @@ pub(crate) fn call(
         "glob-special" => glob_special(fields, values),
         "glob-repeat" => glob_repeat(alloc, request, values),
         "glob-names" => glob_names(alloc, fields, values),
-        _ => return Ok(false),
+        _ => return false,
     };
-    called?;
-    Ok(true)
+    values.record(called);
+    true
 }

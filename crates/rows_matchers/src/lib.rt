@@ -7,22 +7,12 @@ mod paths;
 mod visits;
 
 use rows::request::Request;
-use rows::row_error::RowError;
 use rows::values::Values;
 use std::alloc::Global;
 
 /// Runs the request of this name. Returns `false` if this crate has no such request.
-pub fn call(
-    alloc: Global,
-    name: &str,
-    request: &Request,
-    values: &mut Values,
-) -> Result<bool, RowError> {
-    if globs::call(alloc, name, request, values)? {
-        return Ok(true);
-    }
-    if visits::call(alloc, name, request, values)? {
-        return Ok(true);
-    }
-    matchers::call(alloc, name, request, values)
+pub fn call(alloc: Global, name: &str, request: &Request, values: &mut Values) -> bool {
+    globs::call(alloc, name, request, values)
+        || visits::call(alloc, name, request, values)
+        || matchers::call(alloc, name, request, values)
 }

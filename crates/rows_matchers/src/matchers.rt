@@ -21,7 +21,7 @@ fn put_matches<M: Matcher>(
     values: &mut Values,
 ) -> Result<(), RowError> {
     for index in 0..files.len() {
-        values.flag(matcher.matches(parse_path(alloc, files.string(index)?)?));
+        values.flag(matcher.matches(parse_path(alloc, files.string(index))?));
     }
     Ok(())
 }
@@ -33,7 +33,7 @@ fn put_visits<M: Matcher>(
     values: &mut Values,
 ) -> Result<(), RowError> {
     for index in 0..dirs.len() {
-        let visit = matcher.visit(alloc, parse_path(alloc, dirs.string(index)?)?)?;
+        let visit = matcher.visit(alloc, parse_path(alloc, dirs.string(index))?)?;
         put_visit(alloc, &visit, values);
     }
     Ok(())
@@ -86,9 +86,9 @@ fn run_files(
     request: &Request,
     values: &mut Values,
 ) -> Result<(), RowError> {
-    let files = parse_paths(alloc, request.group(0)?, 1)?;
+    let files = parse_paths(alloc, request.group(0), 1)?;
     let matcher = FilesMatcher::new(alloc, files.as_slice())?;
-    run(alloc, name, &matcher, request.group(1)?, values)
+    run(alloc, name, &matcher, request.group(1), values)
 }
 
 fn run_prefix(
@@ -97,9 +97,9 @@ fn run_prefix(
     request: &Request,
     values: &mut Values,
 ) -> Result<(), RowError> {
-    let prefixes = parse_paths(alloc, request.group(0)?, 1)?;
+    let prefixes = parse_paths(alloc, request.group(0), 1)?;
     let matcher = PrefixMatcher::new(alloc, prefixes.as_slice())?;
-    run(alloc, name, &matcher, request.group(1)?, values)
+    run(alloc, name, &matcher, request.group(1), values)
 }
 
 // Parses a glob, which ignores case if it begins with `(?i)`.
@@ -125,7 +125,7 @@ fn split_pattern(field: &str) -> Result<(&str, &str), RowError> {
 fn parse_dirs(alloc: Global, fields: &Fields) -> Result<Vec<RepoPath<'_>>, RowError> {
     let mut dirs = Vec::new(alloc);
     for index in 1..fields.len() {
-        let (dir, _) = split_pattern(fields.string(index)?)?;
+        let (dir, _) = split_pattern(fields.string(index))?;
         dirs.push(parse_path(alloc, dir)?)?;
     }
     Ok(dirs)
@@ -134,7 +134,7 @@ fn parse_dirs(alloc: Global, fields: &Fields) -> Result<Vec<RepoPath<'_>>, RowEr
 fn parse_globs(alloc: Global, fields: &Fields) -> Result<Vec<PathGlobPattern>, RowError> {
     let mut globs = Vec::new(alloc);
     for index in 1..fields.len() {
-        let (_, text) = split_pattern(fields.string(index)?)?;
+        let (_, text) = split_pattern(fields.string(index))?;
         match parse_glob(alloc, text)? {
             Ok(glob) => globs.push(glob)?,
             Err(_) => return Err(RowError::Unreadable("glob")),
@@ -163,11 +163,11 @@ fn run_globs(
     request: &Request,
     values: &mut Values,
 ) -> Result<(), RowError> {
-    let fields = request.group(0)?;
+    let fields = request.group(0);
     let dirs = parse_dirs(alloc, fields)?;
     let globs = parse_globs(alloc, fields)?;
     let matcher = build_globs(alloc, prefix_paths, dirs.as_slice(), globs.as_slice())?;
-    run(alloc, name, &matcher, request.group(1)?, values)
+    run(alloc, name, &matcher, request.group(1), values)
 }
 
 // Runs the request of this name on a matcher of the kind in the first field.
@@ -177,9 +177,9 @@ fn run_kind(
     request: &Request,
     values: &mut Values,
 ) -> Result<(), RowError> {
-    match request.group(0)?.string(0)? {
-        "everything" => run(alloc, name, &EverythingMatcher, request.group(1)?, values),
-        "nothing" => run(alloc, name, &NothingMatcher, request.group(1)?, values),
+    match request.group(0).string(0) {
+        "everything" => run(alloc, name, &EverythingMatcher, request.group(1), values),
+        "nothing" => run(alloc, name, &NothingMatcher, request.group(1), values),
         "files" => run_files(alloc, name, request, values),
         "prefix" => run_prefix(alloc, name, request, values),
         "globs" => run_globs(alloc, name, false, request, values),
@@ -208,8 +208,8 @@ fn build_each(
 
 // Appends for each of these matchers and each file whether it accepts the file.
 fn globs_builder(alloc: Global, request: &Request, values: &mut Values) -> Result<(), RowError> {
-    let fields = request.group(0)?;
-    let files = request.group(1)?;
+    let fields = request.group(0);
+    let files = request.group(1);
     let dirs = parse_dirs(alloc, fields)?;
     let globs = parse_globs(alloc, fields)?;
     for matcher in &build_each(alloc, dirs.as_slice(), globs.as_slice())? {
@@ -220,7 +220,7 @@ fn globs_builder(alloc: Global, request: &Request, values: &mut Values) -> Resul
 
 // Appends the regular expression and the debug form of a path's glob, or its error.
 fn path_glob(alloc: Global, fields: &Fields, values: &mut Values) -> Result<(), RowError> {
-    let text = fields.string(0)?;
+    let text = fields.string(0);
     match parse_glob(alloc, text)? {
         Ok(glob) => {
             values.allocated(glob.as_regex(alloc));
@@ -243,19 +243,14 @@ fn debug_matchers(values: &mut Values) -> Result<(), RowError> {
     agree(is_reflexive, "equality of matchers")
 }
 
-pub(crate) fn call(
-    alloc: Global,
-    name: &str,
-    request: &Request,
-    values: &mut Values,
-) -> Result<bool, RowError> {
+pub(crate) fn call(alloc: Global, name: &str, request: &Request, values: &mut Values) -> bool {
     let called = match name {
         "accepts" | "visit" | "walk" => run_kind(alloc, name, request, values),
         "globs-builder" => globs_builder(alloc, request, values),
-        "path-glob" => path_glob(alloc, request.group(0)?, values),
+        "path-glob" => path_glob(alloc, request.group(0), values),
         "debug-matchers" => debug_matchers(values),
-        _ => return Ok(false),
+        _ => return false,
     };
-    called?;
-    Ok(true)
+    values.record(called);
+    true
 }

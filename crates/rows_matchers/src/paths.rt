@@ -20,7 +20,7 @@ pub(crate) fn parse_paths(
 ) -> Result<Vec<RepoPath<'_>>, RowError> {
     let mut paths = Vec::new(alloc);
     for index in start..fields.len() {
-        paths.push(parse_path(alloc, fields.string(index)?)?)?;
+        paths.push(parse_path(alloc, fields.string(index))?)?;
     }
     Ok(paths)
 }

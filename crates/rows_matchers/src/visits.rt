@@ -73,8 +73,8 @@ pub(crate) fn put_visit(alloc: Global, visit: &Visit, values: &mut Values) {
 
 // Appends the union, difference and intersection of two visits.
 fn visit_combined(alloc: Global, fields: &Fields, values: &mut Values) -> Result<(), RowError> {
-    let first = fields.string(0)?;
-    let second = fields.string(1)?;
+    let first = fields.string(0);
+    let second = fields.string(1);
     let visit = union_visit(parse_visit(alloc, first)?, parse_visit(alloc, second)?)?;
     put_visit(alloc, &visit, values);
     let visit = difference_visit(parse_visit(alloc, first)?, parse_visit(alloc, second)?);
@@ -86,8 +86,8 @@ fn visit_combined(alloc: Global, fields: &Fields, values: &mut Values) -> Result
 
 // Appends the visit of two sets of names, and whether it is `Nothing`.
 fn visit_sets(alloc: Global, fields: &Fields, values: &mut Values) -> Result<(), RowError> {
-    let dirs = parse_names(alloc, fields.string(0)?)?;
-    let visit = Visit::sets(dirs, parse_names(alloc, fields.string(1)?)?);
+    let dirs = parse_names(alloc, fields.string(0))?;
+    let visit = Visit::sets(dirs, parse_names(alloc, fields.string(1))?);
     put_visit(alloc, &visit, values);
     values.flag(visit.is_nothing());
     agree(
@@ -98,31 +98,26 @@ fn visit_sets(alloc: Global, fields: &Fields, values: &mut Values) -> Result<(),
 
 // Appends for each name of a set whether it is to be visited as a directory and as a file.
 fn visit_contains(alloc: Global, fields: &Fields, values: &mut Values) -> Result<(), RowError> {
-    let dirs = parse_dirs(alloc, fields.string(0)?)?;
-    let files = parse_files(alloc, fields.string(1)?)?;
-    for name in parse_names(alloc, fields.string(2)?)?.iter() {
+    let dirs = parse_dirs(alloc, fields.string(0))?;
+    let files = parse_files(alloc, fields.string(1))?;
+    for name in parse_names(alloc, fields.string(2))?.iter() {
         values.flag(dirs.contains(name));
         values.flag(files.contains(name));
     }
     Ok(())
 }
 
-pub(crate) fn call(
-    alloc: Global,
-    name: &str,
-    request: &Request,
-    values: &mut Values,
-) -> Result<bool, RowError> {
+pub(crate) fn call(alloc: Global, name: &str, request: &Request, values: &mut Values) -> bool {
     if !name.starts_with("visit-") {
-        return Ok(false);
+        return false;
     }
-    let fields = request.group(0)?;
+    let fields = request.group(0);
     let called = match name {
         "visit-combined" => visit_combined(alloc, fields, values),
         "visit-sets" => visit_sets(alloc, fields, values),
         "visit-contains" => visit_contains(alloc, fields, values),
-        _ => return Ok(false),
+        _ => return false,
     };
-    called?;
-    Ok(true)
+    values.record(called);
+    true
 }

@@ -5,16 +5,10 @@ mod labels;
 mod merges;
 
 use rows::request::Request;
-use rows::row_error::RowError;
 use rows::values::Values;
 use std::alloc::Global;
 
 /// Runs the request of this name. Returns `false` if this crate has no such request.
-pub fn call(
-    alloc: Global,
-    name: &str,
-    request: &Request,
-    values: &mut Values,
-) -> Result<bool, RowError> {
-    Ok(merges::call(alloc, name, request, values)? || labels::call(alloc, name, request, values)?)
+pub fn call(alloc: Global, name: &str, request: &Request, values: &mut Values) -> bool {
+    merges::call(alloc, name, request, values) || labels::call(alloc, name, request, values)
 }

@@ -1,5 +1,5 @@
 //! Requests on paths of the file system.
-use crate::parsing::{only_bytes, only_string, path_at};
+use crate::parsing::path_at;
 use jj_files::file_util::{
     IoResultExt, PathError, expand_home_path, normalize_path, path_from_bytes, path_to_bytes,
     relative_path, slash_path,
@@ -15,12 +15,7 @@ use std::io;
 use std::io::ErrorKind;
 
 /// Runs the request of this name. Returns `false` if this module has no such request.
-pub fn call(
-    alloc: Global,
-    name: &str,
-    request: &Request,
-    values: &mut Values,
-) -> Result<bool, RowError> {
+pub fn call(alloc: Global, name: &str, request: &Request, values: &mut Values) -> bool {
     let called = match name {
         "fs-path" => fs_path(alloc, request, values),
         "fs-relative-path" => fs_relative_path(alloc, request, values),
@@ -30,10 +25,10 @@ pub fn call(
         "fs-bytes" => fs_bytes(request, values),
         "fs-slashes" => fs_slashes(request, values),
         "fs-error" => fs_error(alloc, request, values),
-        _ => return Ok(false),
+        _ => return false,
     };
-    called?;
-    Ok(true)
+    values.record(called);
+    true
 }
 
 // Appends an error of a path, and its cause.
@@ -62,8 +57,8 @@ fn put_name_error(
 }
 
 fn fs_path(alloc: Global, request: &Request, values: &mut Values) -> Result<(), RowError> {
-    let fields = request.group(0)?;
-    let base = fields.string(1)?;
+    let fields = request.group(0);
+    let base = fields.string(1);
     let path = path_at(alloc, fields, 0)?;
     values.allocated(path.to_fs_path_unchecked(alloc, base));
     match path.to_fs_path(alloc, base) {
@@ -93,7 +88,7 @@ fn put_relative_error(
 }
 
 fn fs_relative_path(alloc: Global, request: &Request, values: &mut Values) -> Result<(), RowError> {
-    let bytes = only_bytes(request.group(0)?)?;
+    let bytes = request.group(0).only_bytes();
     match RepoPathBuf::from_relative_path(alloc, bytes) {
         Ok(path) => {
             values.word("ok");
@@ -105,25 +100,25 @@ fn fs_relative_path(alloc: Global, request: &Request, values: &mut Values) -> Re
 }
 
 fn fs_normalize(alloc: Global, request: &Request, values: &mut Values) -> Result<(), RowError> {
-    let path = only_string(request.group(0)?)?;
+    let path = request.group(0).only_string();
     values.allocated(normalize_path(alloc, path));
     Ok(())
 }
 
 fn fs_relative(alloc: Global, request: &Request, values: &mut Values) -> Result<(), RowError> {
-    let fields = request.group(0)?;
-    let from = fields.string(0)?;
-    let to = fields.string(1)?;
+    let fields = request.group(0);
+    let from = fields.string(0);
+    let to = fields.string(1);
     values.allocated(relative_path(alloc, from, to));
     Ok(())
 }
 
 // The second field, the home directory, is optional.
 fn fs_home(alloc: Global, request: &Request, values: &mut Values) -> Result<(), RowError> {
-    let fields = request.group(0)?;
-    let path = fields.string(0)?;
+    let fields = request.group(0);
+    let path = fields.string(0);
     let home = if fields.len() > 1 {
-        Some(fields.string(1)?)
+        Some(fields.string(1))
     } else {
         None
     };
@@ -132,7 +127,7 @@ fn fs_home(alloc: Global, request: &Request, values: &mut Values) -> Result<(), 
 }
 
 fn fs_bytes(request: &Request, values: &mut Values) -> Result<(), RowError> {
-    let bytes = only_bytes(request.group(0)?)?;
+    let bytes = request.group(0).only_bytes();
     match path_from_bytes(bytes) {
         Ok(path) => {
             values.word("ok");
@@ -148,13 +143,13 @@ fn fs_bytes(request: &Request, values: &mut Values) -> Result<(), RowError> {
 }
 
 fn fs_slashes(request: &Request, values: &mut Values) -> Result<(), RowError> {
-    values.string(slash_path(only_string(request.group(0)?)?));
+    values.string(slash_path(request.group(0).only_string()));
     Ok(())
 }
 
 // The message of an error at a path.
 fn fs_error(alloc: Global, request: &Request, values: &mut Values) -> Result<(), RowError> {
-    let path = only_string(request.group(0)?)?;
+    let path = request.group(0).only_string();
     let failed: io::Result<()> = Err(io::Error::from(ErrorKind::NotFound));
     match failed.context(alloc, path) {
         Ok(()) => values.word("ok"),

@@ -10,21 +10,16 @@ use std::collections::HashSet;
 use std::hash::Hash;
 
 /// Runs the request of this name. Returns `false` if this module has no such request.
-pub fn call(
-    alloc: Global,
-    name: &str,
-    request: &Request,
-    values: &mut Values,
-) -> Result<bool, RowError> {
+pub fn call(alloc: Global, name: &str, request: &Request, values: &mut Values) -> bool {
     let called = match name {
         "path-order" => path_order(alloc, request, values),
         "path-name-order" => name_order(alloc, request, values),
         "path-set" => path_set(alloc, request, values),
         "path-name-set" => name_set(alloc, request, values),
-        _ => return Ok(false),
+        _ => return false,
     };
-    called?;
-    Ok(true)
+    values.record(called);
+    true
 }
 
 // Appends how the first value compares with the second one.
@@ -45,7 +40,7 @@ fn put_order<T: Ord>(values: &mut Values, first: &T, second: &T) -> Result<Order
 }
 
 fn path_order(alloc: Global, request: &Request, values: &mut Values) -> Result<(), RowError> {
-    let fields = request.group(0)?;
+    let fields = request.group(0);
     let first = path_at(alloc, fields, 0)?;
     let second = path_at(alloc, fields, 1)?;
     let order = put_order(values, &first, &second)?;
@@ -54,7 +49,7 @@ fn path_order(alloc: Global, request: &Request, values: &mut Values) -> Result<(
 }
 
 fn name_order(alloc: Global, request: &Request, values: &mut Values) -> Result<(), RowError> {
-    let fields = request.group(0)?;
+    let fields = request.group(0);
     let first = name_at(alloc, fields, 0)?;
     let second = name_at(alloc, fields, 1)?;
     let order = put_order(values, &first, &second)?;
@@ -99,8 +94,8 @@ fn names_of(alloc: Global, fields: &Fields) -> Result<Vec<RepoPathComponent<'_>>
 
 // Appends the number of distinct paths, and whether the path of the second group is among them.
 fn path_set(alloc: Global, request: &Request, values: &mut Values) -> Result<(), RowError> {
-    let path = path_at(alloc, request.group(1)?, 0)?;
-    let paths = paths_of(alloc, request.group(0)?)?;
+    let path = path_at(alloc, request.group(1), 0)?;
+    let paths = paths_of(alloc, request.group(0))?;
     let borrowed = collect_set(alloc, paths.as_slice())?;
     values.index(borrowed.len());
     values.flag(borrowed.contains(&path));
@@ -125,7 +120,7 @@ fn owned_names(
 
 // Appends the number of distinct names.
 fn name_set(alloc: Global, request: &Request, values: &mut Values) -> Result<(), RowError> {
-    let names = names_of(alloc, request.group(0)?)?;
+    let names = names_of(alloc, request.group(0))?;
     let borrowed = collect_set(alloc, names.as_slice())?;
     values.index(borrowed.len());
     let owned = owned_names(alloc, names.as_slice())?;

@@ -27,28 +27,12 @@ pub fn parse_name(alloc: Global, text: &str) -> Result<RepoPathComponent<'_>, Ro
     }
 }
 
-/// Returns the bytes of the only field of a group; a group of one empty field has no field.
-pub fn only_bytes(fields: &Fields) -> Result<&[u8], RowError> {
-    if fields.is_empty() {
-        return Ok(b"");
-    }
-    fields.bytes(0)
-}
-
-/// Returns the only field of a group as a string.
-pub fn only_string(fields: &Fields) -> Result<&str, RowError> {
-    if fields.is_empty() {
-        return Ok("");
-    }
-    fields.string(0)
-}
-
 /// Parses the path in the field at `index`, or in the only field of the group.
 pub fn path_at(alloc: Global, fields: &Fields, index: usize) -> Result<RepoPath<'_>, RowError> {
     if index == 0 {
-        return parse_path(alloc, only_string(fields)?);
+        return parse_path(alloc, fields.only_string());
     }
-    parse_path(alloc, fields.string(index)?)
+    parse_path(alloc, fields.string(index))
 }
 
 /// Parses the name in the field at `index`.
@@ -57,5 +41,5 @@ pub fn name_at(
     fields: &Fields,
     index: usize,
 ) -> Result<RepoPathComponent<'_>, RowError> {
-    parse_name(alloc, fields.string(index)?)
+    parse_name(alloc, fields.string(index))
 }

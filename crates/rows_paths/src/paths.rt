@@ -1,5 +1,5 @@
 //! Requests that parse and join paths and names.
-use crate::parsing::{name_at, only_string, path_at};
+use crate::parsing::{name_at, path_at};
 use jj_paths::repo_path::{
     InvalidNewRepoPathError, RepoPath, RepoPathBuf, RepoPathComponent, RepoPathComponentBuf,
 };
@@ -10,21 +10,16 @@ use std::alloc::{AllocError, Global};
 use std::fmt;
 
 /// Runs the request of this name. Returns `false` if this module has no such request.
-pub fn call(
-    alloc: Global,
-    name: &str,
-    request: &Request,
-    values: &mut Values,
-) -> Result<bool, RowError> {
+pub fn call(alloc: Global, name: &str, request: &Request, values: &mut Values) -> bool {
     let called = match name {
         "path" => path(alloc, request, values),
         "path-name" => path_name(alloc, request, values),
         "path-directory" => path_directory(alloc, request, values),
         "path-join" => path_join(alloc, request, values),
-        _ => return Ok(false),
+        _ => return false,
     };
-    called?;
-    Ok(true)
+    values.record(called);
+    true
 }
 
 // Writes what a string was parsed to, or the error.
@@ -53,7 +48,7 @@ fn borrowed_path(alloc: Global, text: &str) -> Result<RepoPathBuf, InvalidNewRep
 }
 
 fn path(alloc: Global, request: &Request, values: &mut Values) -> Result<(), RowError> {
-    let text = only_string(request.group(0)?)?;
+    let text = request.group(0).only_string();
     let owned = RepoPathBuf::from_internal_string(String::from_str(alloc, text)?);
     put_parsed(values, &owned)?;
     let is_same = borrowed_path(alloc, text) == owned;
@@ -85,7 +80,7 @@ fn borrowed_name(
 }
 
 fn path_name(alloc: Global, request: &Request, values: &mut Values) -> Result<(), RowError> {
-    let text = only_string(request.group(0)?)?;
+    let text = request.group(0).only_string();
     let owned = RepoPathComponentBuf::new(String::from_str(alloc, text)?);
     put_parsed(values, &owned)?;
     let is_same = borrowed_name(alloc, text) == owned;
@@ -107,7 +102,7 @@ fn name_copies_agree(name: RepoPathComponentBuf, text: &str) -> Result<(), RowEr
 }
 
 fn path_directory(alloc: Global, request: &Request, values: &mut Values) -> Result<(), RowError> {
-    let path = path_at(alloc, request.group(0)?, 0)?;
+    let path = path_at(alloc, request.group(0), 0)?;
     values.allocated(path.to_internal_dir_string(alloc));
     Ok(())
 }
@@ -151,7 +146,7 @@ fn rebuild(alloc: Global, path: RepoPath<'_>) -> Result<RepoPathBuf, AllocError>
 }
 
 fn path_join(alloc: Global, request: &Request, values: &mut Values) -> Result<(), RowError> {
-    let fields = request.group(0)?;
+    let fields = request.group(0);
     let base = path_at(alloc, fields, 0)?;
     let names = names_of(alloc, fields)?;
     let path = join_names(alloc, base, names.as_slice())?;

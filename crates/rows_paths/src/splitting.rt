@@ -7,12 +7,7 @@ use rows::values::Values;
 use std::alloc::Global;
 
 /// Runs the request of this name. Returns `false` if this module has no such request.
-pub fn call(
-    alloc: Global,
-    name: &str,
-    request: &Request,
-    values: &mut Values,
-) -> Result<bool, RowError> {
+pub fn call(alloc: Global, name: &str, request: &Request, values: &mut Values) -> bool {
     let called = match name {
         "path-parent" => path_parent(alloc, request, values),
         "path-split" => path_split(alloc, request, values),
@@ -21,10 +16,10 @@ pub fn call(
         "path-ancestors" => path_ancestors(alloc, request, values),
         "path-strip" => path_strip(alloc, request, values),
         "path-common" => path_common(alloc, request, values),
-        _ => return Ok(false),
+        _ => return false,
     };
-    called?;
-    Ok(true)
+    values.record(called);
+    true
 }
 
 // Appends `none`, or `some` and the path.
@@ -33,7 +28,7 @@ fn put_option(values: &mut Values, path: Option<RepoPath<'_>>) {
 }
 
 fn path_parent(alloc: Global, request: &Request, values: &mut Values) -> Result<(), RowError> {
-    let path = path_at(alloc, request.group(0)?, 0)?;
+    let path = path_at(alloc, request.group(0), 0)?;
     put_option(values, path.parent());
     agree(
         path.is_root() == path.parent().is_none() && (path == RepoPath::root()) == path.is_root(),
@@ -42,7 +37,7 @@ fn path_parent(alloc: Global, request: &Request, values: &mut Values) -> Result<
 }
 
 fn path_split(alloc: Global, request: &Request, values: &mut Values) -> Result<(), RowError> {
-    let path = path_at(alloc, request.group(0)?, 0)?;
+    let path = path_at(alloc, request.group(0), 0)?;
     match path.split() {
         None => values.word("none"),
         Some((parent, name)) => {
@@ -55,7 +50,7 @@ fn path_split(alloc: Global, request: &Request, values: &mut Values) -> Result<(
 }
 
 fn path_split_first(alloc: Global, request: &Request, values: &mut Values) -> Result<(), RowError> {
-    let path = path_at(alloc, request.group(0)?, 0)?;
+    let path = path_at(alloc, request.group(0), 0)?;
     match path.split_first() {
         None => values.word("none"),
         Some((name, rest)) => {
@@ -77,9 +72,9 @@ fn put_name(values: &mut Values, name: Option<RepoPathComponent<'_>>) {
 
 // Calls `next_back` for each `<`, and `next` for any other character.
 fn path_components(alloc: Global, request: &Request, values: &mut Values) -> Result<(), RowError> {
-    let fields = request.group(0)?;
+    let fields = request.group(0);
     let mut names = path_at(alloc, fields, 0)?.components();
-    for end in fields.string(1)?.chars() {
+    for end in fields.string(1).chars() {
         take_from(values, &mut names, end);
     }
     Ok(())
@@ -96,7 +91,7 @@ fn take_from(values: &mut Values, names: &mut RepoPathComponentsIter<'_>, end: c
 }
 
 fn path_ancestors(alloc: Global, request: &Request, values: &mut Values) -> Result<(), RowError> {
-    let path = path_at(alloc, request.group(0)?, 0)?;
+    let path = path_at(alloc, request.group(0), 0)?;
     for ancestor in path.ancestors() {
         values.string(ancestor.as_internal_file_string());
     }
@@ -104,7 +99,7 @@ fn path_ancestors(alloc: Global, request: &Request, values: &mut Values) -> Resu
 }
 
 fn path_strip(alloc: Global, request: &Request, values: &mut Values) -> Result<(), RowError> {
-    let fields = request.group(0)?;
+    let fields = request.group(0);
     let path = path_at(alloc, fields, 0)?;
     let base = path_at(alloc, fields, 1)?;
     let rest = path.strip_prefix(base);
@@ -113,7 +108,7 @@ fn path_strip(alloc: Global, request: &Request, values: &mut Values) -> Result<(
 }
 
 fn path_common(alloc: Global, request: &Request, values: &mut Values) -> Result<(), RowError> {
-    let fields = request.group(0)?;
+    let fields = request.group(0);
     let path = path_at(alloc, fields, 0)?;
     let (common, rest) = path.split_common_prefix(path_at(alloc, fields, 1)?);
     values.string(common.as_internal_file_string());

@@ -10,12 +10,7 @@ use rows::values::Values;
 use std::alloc::Global;
 
 /// Runs the request of this name. Returns `false` if this module has no such request.
-pub fn call(
-    alloc: Global,
-    name: &str,
-    request: &Request,
-    values: &mut Values,
-) -> Result<bool, RowError> {
+pub fn call(alloc: Global, name: &str, request: &Request, values: &mut Values) -> bool {
     let called = match name {
         "tree" => tree(alloc, request, values),
         "tree-get" => tree_get(alloc, request, values),
@@ -24,10 +19,10 @@ pub fn call(
         "tree-equal" => tree_equal(alloc, request, values),
         "tree-root" => tree_root(alloc, request, values),
         "tree-copy" => tree_copy(alloc, request, values),
-        _ => return Ok(false),
+        _ => return false,
     };
-    called?;
-    Ok(true)
+    values.record(called);
+    true
 }
 
 fn number(text: &str) -> Result<u64, RowError> {
@@ -108,13 +103,13 @@ fn apply(alloc: Global, tree: &mut RepoPathTree<u64>, step: &str) -> Result<(), 
 fn tree_of(alloc: Global, fields: &Fields) -> Result<RepoPathTree<u64>, RowError> {
     let mut tree: RepoPathTree<u64> = RepoPathTree::default(alloc);
     for index in 0..fields.len() {
-        apply(alloc, &mut tree, fields.string(index)?)?;
+        apply(alloc, &mut tree, fields.string(index))?;
     }
     Ok(tree)
 }
 
 fn tree(alloc: Global, request: &Request, values: &mut Values) -> Result<(), RowError> {
-    let tree = tree_of(alloc, request.group(0)?)?;
+    let tree = tree_of(alloc, request.group(0))?;
     values.debug(&tree);
     values.allocated(format!(in alloc; "{tree:#?}"));
     Ok(())
@@ -138,8 +133,8 @@ fn nodes_agree(tree: &RepoPathTree<u64>, path: RepoPath<'_>) -> bool {
 
 // Appends the values at the paths of the second group.
 fn tree_get(alloc: Global, request: &Request, values: &mut Values) -> Result<(), RowError> {
-    let paths = request.group(1)?;
-    let tree = tree_of(alloc, request.group(0)?)?;
+    let paths = request.group(1);
+    let tree = tree_of(alloc, request.group(0))?;
     for index in 0..paths.len() {
         let path = path_at(alloc, paths, index)?;
         put_value(values, tree.get(path));
@@ -149,8 +144,8 @@ fn tree_get(alloc: Global, request: &Request, values: &mut Values) -> Result<(),
 }
 
 fn tree_walk(alloc: Global, request: &Request, values: &mut Values) -> Result<(), RowError> {
-    let path = path_at(alloc, request.group(1)?, 0)?;
-    let tree = tree_of(alloc, request.group(0)?)?;
+    let path = path_at(alloc, request.group(1), 0)?;
+    let tree = tree_of(alloc, request.group(0))?;
     for (below, rest) in tree.walk_to(path) {
         values.number(*below.value());
         values.string(rest.as_internal_file_string());
@@ -172,8 +167,8 @@ fn walks_agree(tree: &RepoPathTree<u64>, path: RepoPath<'_>) -> bool {
 
 // Appends the children of a path with their values.
 fn tree_children(alloc: Global, request: &Request, values: &mut Values) -> Result<(), RowError> {
-    let path = path_at(alloc, request.group(1)?, 0)?;
-    let tree = tree_of(alloc, request.group(0)?)?;
+    let path = path_at(alloc, request.group(1), 0)?;
+    let tree = tree_of(alloc, request.group(0))?;
     match tree.get(path) {
         None => values.word("none"),
         Some(node) => {
@@ -204,16 +199,16 @@ fn children_agree(alloc: Global, tree: &RepoPathTree<u64>) -> Result<(), RowErro
 }
 
 fn tree_equal(alloc: Global, request: &Request, values: &mut Values) -> Result<(), RowError> {
-    let first = tree_of(alloc, request.group(0)?)?;
-    let second = tree_of(alloc, request.group(1)?)?;
+    let first = tree_of(alloc, request.group(0))?;
+    let second = tree_of(alloc, request.group(1))?;
     values.flag(first == second);
     agree((first != second) != (first == second), "comparisons")
 }
 
 // Sets the value at the root, and then increments it.
 fn tree_root(alloc: Global, request: &Request, values: &mut Values) -> Result<(), RowError> {
-    let value = request.group(1)?.number(0)?;
-    let mut tree = tree_of(alloc, request.group(0)?)?;
+    let value = request.group(1).number(0);
+    let mut tree = tree_of(alloc, request.group(0))?;
     tree.set_value(value);
     let root = tree.value_mut();
     *root = root.saturating_add(1);
@@ -243,16 +238,16 @@ fn set_texts(
     fields: &Fields,
 ) -> Result<(), RowError> {
     for index in 0..fields.len() {
-        set_text(alloc, tree, fields.string(index)?)?;
+        set_text(alloc, tree, fields.string(index))?;
     }
     Ok(())
 }
 
 // Clones a tree of strings, and then changes the original.
 fn tree_copy(alloc: Global, request: &Request, values: &mut Values) -> Result<(), RowError> {
-    let steps = request.group(1)?;
+    let steps = request.group(1);
     let mut tree: RepoPathTree<Option<String>> = RepoPathTree::default(alloc);
-    set_texts(alloc, &mut tree, request.group(0)?)?;
+    set_texts(alloc, &mut tree, request.group(0))?;
     let copy = tree.clone()?;
     set_texts(alloc, &mut tree, steps)?;
     values.debug(&copy);

@@ -14,7 +14,7 @@ fn push_line(input: &mut Vec<u8>, line: &Fields) -> Result<(), RowError> {
         if index > 0 {
             input.push(b'\t')?;
         }
-        input.extend_from_slice(line.bytes(index)?)?;
+        input.extend_from_slice(line.bytes(index))?;
     }
     input.push(b'\n')?;
     Ok(())
@@ -78,31 +78,21 @@ fn run(alloc: Global, words: &Fields, input: &[u8], values: &mut Values) -> Resu
 // Words, and a group of fields for each line of the input.
 fn run_lines(alloc: Global, request: &Request, values: &mut Values) -> Result<(), RowError> {
     let input = join_lines(alloc, request.groups())?;
-    run(alloc, request.group(0)?, input.as_slice(), values)
+    run(alloc, request.group(0), input.as_slice(), values)
 }
 
 // Words, and the input as one field.
 fn run_bytes(alloc: Global, request: &Request, values: &mut Values) -> Result<(), RowError> {
-    run(
-        alloc,
-        request.group(0)?,
-        request.group(1)?.bytes(0)?,
-        values,
-    )
+    run(alloc, request.group(0), request.group(1).bytes(0), values)
 }
 
 /// Runs the request of this name. Returns `false` if this crate has no such request.
-pub fn call(
-    alloc: Global,
-    name: &str,
-    request: &Request,
-    values: &mut Values,
-) -> Result<bool, RowError> {
+pub fn call(alloc: Global, name: &str, request: &Request, values: &mut Values) -> bool {
     let called = match name {
         "run" => run_lines(alloc, request, values),
         "run-bytes" => run_bytes(alloc, request, values),
-        _ => return Ok(false),
+        _ => return false,
     };
-    called?;
-    Ok(true)
+    values.record(called);
+    true
 }

@@ -8,11 +8,6 @@ use smallvec::SmallVec;
 use std::alloc::Global;
 use std::default::MadeWith;
 
-/// Copies the field at `index`.
-pub fn owned(alloc: Global, fields: &Fields, index: usize) -> Result<String, RowError> {
-    Ok(String::from_str(alloc, fields.string(index)?)?)
-}
-
 /// Parses an id in hexadecimal.
 pub fn parse_id<K>(alloc: Global, hex: &str) -> Result<Id<K>, RowError> {
     match Id::try_from_hex(alloc, hex)? {
@@ -23,7 +18,7 @@ pub fn parse_id<K>(alloc: Global, hex: &str) -> Result<Id<K>, RowError> {
 
 /// Parses the id at `index`.
 pub fn id<K>(alloc: Global, fields: &Fields, index: usize) -> Result<Id<K>, RowError> {
-    parse_id(alloc, fields.string(index)?)
+    parse_id(alloc, fields.string(index))
 }
 
 /// Parses all fields as ids.
@@ -41,21 +36,10 @@ pub fn merge_of<T: MadeWith<Global> + Drop>(terms: Vec<T>) -> Result<Merge<T>, R
     Ok(Merge::from_vec(SmallVec::from_vec(terms)))
 }
 
-/// Parses the minutes of an offset at `index`.
-pub fn offset(fields: &Fields, index: usize) -> Result<i32, RowError> {
-    match fields.string(index)?.parse::<i32>() {
-        Ok(minutes) => Ok(minutes),
-        Err(_) => Err(RowError::Unreadable("offset")),
+/// Parses a time from the fields from index `index` on: milliseconds, and minutes of the offset.
+pub fn time(fields: &Fields, index: usize) -> Timestamp {
+    Timestamp {
+        timestamp: MillisSinceEpoch(fields.signed(index)),
+        tz_offset: fields.signed32(index.saturating_add(1)),
     }
-}
-
-/// Parses a time from the fields from `index` on: milliseconds, and minutes of the offset.
-pub fn time(fields: &Fields, index: usize) -> Result<Timestamp, RowError> {
-    needs(index < 100, "few fields")?;
-    let timestamp = MillisSinceEpoch(fields.signed(index)?);
-    let tz_offset = offset(fields, index + 1)?;
-    Ok(Timestamp {
-        timestamp,
-        tz_offset,
-    })
 }

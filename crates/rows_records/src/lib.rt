@@ -10,21 +10,13 @@ mod signatures;
 mod times;
 
 use rows::request::Request;
-use rows::row_error::RowError;
 use rows::values::Values;
 use std::alloc::Global;
 
 /// Runs the request of this name. Returns `false` if this crate has no such request.
-pub fn call(
-    alloc: Global,
-    name: &str,
-    request: &Request,
-    values: &mut Values,
-) -> Result<bool, RowError> {
-    Ok(
-        times::call(alloc, name, request, values)?
-            || commits::call(alloc, name, request, values)?
-            || errors::call(alloc, name, request, values)?
-            || signatures::call(alloc, name, request, values)?,
-    )
+pub fn call(alloc: Global, name: &str, request: &Request, values: &mut Values) -> bool {
+    times::call(alloc, name, request, values)
+        || commits::call(alloc, name, request, values)
+        || errors::call(alloc, name, request, values)
+        || signatures::call(alloc, name, request, values)
 }

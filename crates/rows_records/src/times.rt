@@ -1,5 +1,5 @@
 //! Requests on times: milliseconds since 1970 and minutes of an offset.
-use crate::arguments::{offset, time};
+use crate::arguments::time;
 use crate::recorded::put_record;
 use jiff::tz::{Offset, TimeZone};
 use jj_backend::backend::Timestamp;
@@ -15,7 +15,7 @@ fn put_time(values: &mut Values, time: Timestamp) {
 
 // MILLIS OFFSET => the milliseconds of its date and the seconds of that date's offset
 fn date(request: &Request, values: &mut Values) -> Result<(), RowError> {
-    match time(request.group(0)?, 0)?.to_datetime() {
+    match time(request.group(0), 0).to_datetime() {
         Ok(date) => {
             values.signed(date.timestamp().as_millisecond());
             values.signed(date.offset().seconds() as i64);
@@ -38,9 +38,9 @@ fn times_of(nanos: i128, seconds: i32) -> Option<(Timestamp, Timestamp)> {
 
 // NANOSECONDS SECONDS => the time of that moment in that offset
 fn now(request: &Request, values: &mut Values) -> Result<(), RowError> {
-    let fields = request.group(0)?;
-    let nanos = fields.signed(0)?;
-    let Some((time, of_date)) = times_of(nanos as i128, offset(fields, 1)?) else {
+    let fields = request.group(0);
+    let nanos = fields.signed(0);
+    let Some((time, of_date)) = times_of(nanos as i128, fields.signed32(1)) else {
         return Err(RowError::Unreadable("moment"));
     };
     put_time(values, time);
@@ -49,24 +49,19 @@ fn now(request: &Request, values: &mut Values) -> Result<(), RowError> {
 
 // MILLIS OFFSET => content, JSON
 fn record(alloc: Global, request: &Request, values: &mut Values) -> Result<(), RowError> {
-    let time = time(request.group(0)?, 0)?;
+    let time = time(request.group(0), 0);
     put_record(alloc, values, &time);
     Ok(())
 }
 
 /// Runs the request of this name. Returns `false` if this module has no such request.
-pub fn call(
-    alloc: Global,
-    name: &str,
-    request: &Request,
-    values: &mut Values,
-) -> Result<bool, RowError> {
+pub fn call(alloc: Global, name: &str, request: &Request, values: &mut Values) -> bool {
     let called = match name {
         "time-date" => date(request, values),
         "time-now" => now(request, values),
         "time" => record(alloc, request, values),
-        _ => return Ok(false),
+        _ => return false,
     };
-    called?;
-    Ok(true)
+    values.record(called);
+    true
 }

@@ -1,5 +1,4 @@
 //! Requests on digests, content and JSON.
-use crate::only_bytes;
 use jj_content::blake2b::Blake2b512;
 use jj_content::content_hash::{ContentHash, DigestUpdate, ToJson, ToJsonError, blake2b_hash};
 use jj_content::hex_util::{decode_hex, encode_hex};
@@ -47,26 +46,41 @@ pub(crate) fn content_of<T: ContentHash>(alloc: Global, value: &T) -> Result<Str
     encode_hex(alloc, recorder.bytes.as_slice())
 }
 
+fn is_digest_of(alloc: Global, digest: &[u8; 64], content: &str) -> Result<bool, AllocError> {
+    let bytes = decode_hex(alloc, content)?;
+    Ok(bytes.is_some_and(|bytes: Vec<u8>| *digest == digest_of(bytes.as_slice())))
+}
+
 // Appends the content of a value as hex. Fails unless `blake2b_hash` is the digest of the content.
 pub(crate) fn put_content<T: ContentHash>(
     alloc: Global,
     values: &mut Values,
     value: &T,
 ) -> Result<(), RowError> {
+    let digest = blake2b_hash(alloc, value)?;
     let content = content_of(alloc, value)?;
     values.string(content.as_str());
-    let digest = blake2b_hash(alloc, value)?;
-    let Some(bytes) = decode_hex(alloc, content.as_str())? else {
-        return Err(RowError::Disagreement("content as a hex string"));
-    };
     agree(
-        digest == digest_of(bytes.as_slice()),
+        is_digest_of(alloc, &digest, content.as_str())?,
         "the digest of a value and of its content",
     )
 }
 
+// Appends the content of a value whose allocation may have failed.
+fn put_made<T: ContentHash + Drop>(
+    alloc: Global,
+    values: &mut Values,
+    value: Result<T, AllocError>,
+) {
+    let called = match value {
+        Ok(value) => put_content(alloc, values, &value),
+        Err(AllocError) => Err(RowError::Memory),
+    };
+    values.record(called);
+}
+
 fn digest(alloc: Global, request: &Request, values: &mut Values) -> Result<(), RowError> {
-    let digest = digest_of(only_bytes(request.group(0)?)?);
+    let digest = digest_of(request.group(0).only_bytes());
     values.allocated(encode_hex(alloc, digest.as_slice()));
     Ok(())
 }
@@ -84,7 +98,7 @@ fn message(alloc: Global, length: usize) -> Result<Vec<u8>, AllocError> {
 
 // Appends the digest of the concatenated digests of the messages of all lengths up to `length`.
 fn digest_lengths(alloc: Global, request: &Request, values: &mut Values) -> Result<(), RowError> {
-    let length = request.group(0)?.index(0)?;
+    let length = request.group(0).index(0);
     let message = message(alloc, length)?;
     let mut hasher = Blake2b512::new();
     hasher.update(digest_of(b"").as_slice());
@@ -124,7 +138,7 @@ fn is_cut_into_pieces(message: &[u8], digest: &[u8; 64]) -> bool {
 // Appends the digest of a message. Fails unless it is independent of how `update` splits the
 // message.
 fn digest_length(alloc: Global, request: &Request, values: &mut Values) -> Result<(), RowError> {
-    let length = request.group(0)?.index(0)?;
+    let length = request.group(0).index(0);
     let message = message(alloc, length)?;
     let digest = digest_of(message.as_slice());
     values.allocated(encode_hex(alloc, digest.as_slice()));
@@ -135,150 +149,163 @@ fn digest_length(alloc: Global, request: &Request, values: &mut Values) -> Resul
     )
 }
 
-fn out_of_range<E: Drop>(_error: E) -> RowError {
-    RowError::Unreadable("number")
-}
-
 fn number(alloc: Global, request: &Request, values: &mut Values) -> Result<(), RowError> {
-    let fields = request.group(0)?;
-    match fields.string(0)? {
-        "bool" => put_content(alloc, values, &fields.flag(1)?),
-        "u8" => {
-            let number = u8::try_from(fields.number(1)?).map_err(out_of_range)?;
-            put_content(alloc, values, &number)
-        }
-        "u32" => {
-            let number = u32::try_from(fields.number(1)?).map_err(out_of_range)?;
-            put_content(alloc, values, &number)
-        }
-        "i32" => {
-            let number = i32::try_from(fields.signed(1)?).map_err(out_of_range)?;
-            put_content(alloc, values, &number)
-        }
-        "u64" => put_content(alloc, values, &fields.number(1)?),
-        "i64" => put_content(alloc, values, &fields.signed(1)?),
+    let fields = request.group(0);
+    match fields.string(0) {
+        "bool" => put_content(alloc, values, &fields.flag(1)),
+        "u8" => put_content(alloc, values, &fields.number8(1)),
+        "u32" => put_content(alloc, values, &fields.number32(1)),
+        "i32" => put_content(alloc, values, &fields.signed32(1)),
+        "u64" => put_content(alloc, values, &fields.number(1)),
+        "i64" => put_content(alloc, values, &fields.signed(1)),
         _ => Err(RowError::Unreadable("type of number")),
     }
 }
 
 // Appends the content of a byte slice, and of its owned form.
 fn bytes(alloc: Global, request: &Request, values: &mut Values) -> Result<(), RowError> {
-    let bytes = only_bytes(request.group(0)?)?;
-    put_content(alloc, values, &bytes)?;
-    put_content(alloc, values, &bytes.to_vec(alloc)?)
+    let bytes = request.group(0).only_bytes();
+    put_made(alloc, values, bytes.to_vec(alloc));
+    put_content(alloc, values, &bytes)
 }
 
 // Appends the content of a string slice, and of its owned form.
 fn string(alloc: Global, request: &Request, values: &mut Values) -> Result<(), RowError> {
-    let string = crate::only_string(request.group(0)?)?;
-    put_content(alloc, values, &string)?;
-    put_content(alloc, values, &String::from_str(alloc, string)?)
-}
-
-fn small(fields: &Fields, index: usize) -> Result<u8, RowError> {
-    u8::try_from(fields.number(index)?).map_err(out_of_range)
-}
-
-fn integer(fields: &Fields, index: usize) -> Result<i32, RowError> {
-    i32::try_from(fields.signed(index)?).map_err(out_of_range)
+    let string = request.group(0).only_string();
+    put_made(alloc, values, String::from_str(alloc, string));
+    put_content(alloc, values, &string)
 }
 
 // Appends the content of an optional `u8` or `i32`.
 fn option(alloc: Global, request: &Request, values: &mut Values) -> Result<(), RowError> {
-    let fields = request.group(0)?;
-    match fields.string(0)? {
+    let fields = request.group(0);
+    match fields.string(0) {
         "u8" if fields.len() < 2 => put_content(alloc, values, &None::<u8>),
-        "u8" => put_content(alloc, values, &Some(small(fields, 1)?)),
+        "u8" => put_content(alloc, values, &Some(fields.number8(1))),
         "i32" if fields.len() < 2 => put_content(alloc, values, &None::<i32>),
-        _ => put_content(alloc, values, &Some(integer(fields, 1)?)),
+        _ => put_content(alloc, values, &Some(fields.signed32(1))),
     }
 }
 
 // Appends the content of a tuple of up to four numbers.
 fn tuple(alloc: Global, request: &Request, values: &mut Values) -> Result<(), RowError> {
-    let fields = request.group(0)?;
+    let fields = request.group(0);
     match fields.len() {
         0 => put_content(alloc, values, &()),
-        1 => put_content(alloc, values, &(integer(fields, 0)?,)),
-        2 => put_content(alloc, values, &(integer(fields, 0)?, small(fields, 1)?)),
+        1 => put_content(alloc, values, &(fields.signed32(0),)),
+        2 => put_content(alloc, values, &(fields.signed32(0), fields.number8(1))),
         3 => {
-            let numbers = (integer(fields, 0)?, small(fields, 1)?, small(fields, 2)?);
+            let numbers = (fields.signed32(0), fields.number8(1), fields.number8(2));
             put_content(alloc, values, &numbers)
         }
         _ => {
-            let (first, second) = (integer(fields, 0)?, small(fields, 1)?);
-            let (third, fourth) = (small(fields, 2)?, fields.flag(3)?);
+            let (first, second) = (fields.signed32(0), fields.number8(1));
+            let (third, fourth) = (fields.number8(2), fields.flag(3));
             put_content(alloc, values, &(first, second, third, fourth))
         }
     }
 }
 
 fn list(alloc: Global, request: &Request, values: &mut Values) -> Result<(), RowError> {
-    let fields = request.group(0)?;
+    let fields = request.group(0);
     let mut numbers = Vec::new(alloc);
     for index in 0..fields.len() {
-        numbers.push(integer(fields, index)?)?;
+        numbers.push(fields.signed32(index))?;
     }
     put_content(alloc, values, &numbers.as_slice())
 }
 
-// Appends the content of an ordered map and of a hash map with these entries.
-fn map(alloc: Global, request: &Request, values: &mut Values) -> Result<(), RowError> {
-    let (keys, entries) = (request.group(0)?, request.group(1)?);
+fn ordered_map(
+    alloc: Global,
+    keys: &Fields,
+    entries: &Fields,
+) -> Result<BTreeMap<u8, u8>, AllocError> {
     let mut ordered = BTreeMap::new(alloc);
+    for index in 0..keys.len() {
+        ordered.insert(keys.number8(index), entries.number8(index))?;
+    }
+    Ok(ordered)
+}
+
+fn hashed_map(
+    alloc: Global,
+    keys: &Fields,
+    entries: &Fields,
+) -> Result<HashMap<u8, u8>, AllocError> {
     let mut hashed = HashMap::new(alloc);
     for index in 0..keys.len() {
-        let (key, value) = (small(keys, index)?, small(entries, index)?);
-        ordered.insert(key, value)?;
-        hashed.insert(key, value)?;
+        hashed.insert(keys.number8(index), entries.number8(index))?;
     }
-    put_content(alloc, values, &ordered)?;
-    put_content(alloc, values, &hashed)
+    Ok(hashed)
+}
+
+// Appends the content of an ordered map and of a hash map with these entries.
+fn map(alloc: Global, request: &Request, values: &mut Values) -> Result<(), RowError> {
+    let (keys, entries) = (request.group(0), request.group(1));
+    put_made(alloc, values, ordered_map(alloc, keys, entries));
+    put_made(alloc, values, hashed_map(alloc, keys, entries));
+    Ok(())
+}
+
+fn ordered_strings(alloc: Global, fields: &Fields) -> Result<BTreeMap<String, String>, AllocError> {
+    let mut ordered = BTreeMap::new(alloc);
+    ordered.insert(fields.owned(0)?, fields.owned(1)?)?;
+    Ok(ordered)
+}
+
+fn hashed_strings(alloc: Global, fields: &Fields) -> Result<HashMap<String, String>, AllocError> {
+    let mut hashed = HashMap::new(alloc);
+    hashed.insert(fields.owned(0)?, fields.owned(1)?)?;
+    Ok(hashed)
 }
 
 fn string_map(alloc: Global, request: &Request, values: &mut Values) -> Result<(), RowError> {
-    let fields = request.group(0)?;
-    let (key, value) = (fields.string(0)?, fields.string(1)?);
-    let mut ordered = BTreeMap::new(alloc);
-    ordered.insert(
-        String::from_str(alloc, key)?,
-        String::from_str(alloc, value)?,
-    )?;
-    put_content(alloc, values, &ordered)?;
-    let mut hashed = HashMap::new(alloc);
-    hashed.insert(
-        String::from_str(alloc, key)?,
-        String::from_str(alloc, value)?,
-    )?;
-    put_content(alloc, values, &hashed)
+    put_made(alloc, values, ordered_strings(alloc, request.group(0)));
+    put_made(alloc, values, hashed_strings(alloc, request.group(0)));
+    Ok(())
+}
+
+fn set_of(alloc: Global, members: &Fields) -> Result<HashSet<u8>, AllocError> {
+    let mut set = HashSet::new(alloc);
+    for index in 0..members.len() {
+        set.insert(members.number8(index))?;
+    }
+    Ok(set)
 }
 
 fn set(alloc: Global, request: &Request, values: &mut Values) -> Result<(), RowError> {
-    let members = request.group(0)?;
-    let mut set = HashSet::new(alloc);
-    for index in 0..members.len() {
-        set.insert(small(members, index)?)?;
-    }
-    put_content(alloc, values, &set)
+    put_made(alloc, values, set_of(alloc, request.group(0)));
+    Ok(())
 }
 
-// Appends the content of maps from each byte to 7, with entries inserted in ascending and in
-// descending order.
-fn all_bytes_map(alloc: Global, values: &mut Values) -> Result<(), RowError> {
+fn all_bytes_ordered(alloc: Global) -> Result<BTreeMap<u8, u8>, AllocError> {
     let mut ordered = BTreeMap::new(alloc);
-    let mut up = HashMap::new(alloc);
-    let mut down = HashMap::new(alloc);
-    let mut byte = 0u8;
-    for _ in 0..256 {
+    for byte in 0..=255u8 {
         ordered.insert(byte, 7u8)?;
-        up.insert(byte, 7u8)?;
-        down.insert(255 - byte, 7u8)?;
-        byte = byte.wrapping_add(1);
     }
+    Ok(ordered)
+}
+
+// The entries are inserted in ascending order, or in descending order.
+fn all_bytes_hashed(alloc: Global, is_descending: bool) -> Result<HashMap<u8, u8>, AllocError> {
+    let mut hashed = HashMap::new(alloc);
+    for byte in 0..=255u8 {
+        hashed.insert(if is_descending { 255 - byte } else { byte }, 7u8)?;
+    }
+    Ok(hashed)
+}
+
+fn hashed_digest(alloc: Global, is_descending: bool) -> Result<[u8; 64], AllocError> {
+    blake2b_hash(alloc, &all_bytes_hashed(alloc, is_descending)?)
+}
+
+// Appends the content of a map from each byte to 7. Fails unless hashed maps have its digest.
+fn all_bytes_map(alloc: Global, values: &mut Values) -> Result<(), RowError> {
+    let ordered = all_bytes_ordered(alloc)?;
     put_content(alloc, values, &ordered)?;
     let digest = blake2b_hash(alloc, &ordered)?;
     agree(
-        blake2b_hash(alloc, &up)? == digest && blake2b_hash(alloc, &down)? == digest,
+        hashed_digest(alloc, false)? == digest && hashed_digest(alloc, true)? == digest,
         "the digest of hashed maps",
     )
 }
@@ -299,7 +326,7 @@ pub(crate) fn put_json<T: ToJson>(
 
 // Appends a list of optional strings, and then its items, as JSON.
 fn json(alloc: Global, request: &Request, values: &mut Values) -> Result<(), RowError> {
-    let options = request.group(0)?.options()?;
+    let options = request.group(0).options()?;
     put_json(alloc, values, &options.as_slice())?;
     for option in &options {
         put_json(alloc, values, option)?;
@@ -308,7 +335,7 @@ fn json(alloc: Global, request: &Request, values: &mut Values) -> Result<(), Row
 }
 
 fn json_string(alloc: Global, request: &Request, values: &mut Values) -> Result<(), RowError> {
-    let string = crate::only_string(request.group(0)?)?;
+    let string = request.group(0).only_string();
     put_json(alloc, values, &String::from_str(alloc, string)?)
 }
 
@@ -318,12 +345,7 @@ fn json_errors(values: &mut Values) -> Result<(), RowError> {
     Ok(())
 }
 
-pub(crate) fn call(
-    alloc: Global,
-    name: &str,
-    request: &Request,
-    values: &mut Values,
-) -> Result<bool, RowError> {
+pub(crate) fn call(alloc: Global, name: &str, request: &Request, values: &mut Values) -> bool {
     let called = match name {
         "digest" => digest(alloc, request, values),
         "digest-length" => digest_length(alloc, request, values),
@@ -341,8 +363,8 @@ pub(crate) fn call(
         "json" => json(alloc, request, values),
         "json-string" => json_string(alloc, request, values),
         "json-errors" => json_errors(values),
-        _ => return Ok(false),
+        _ => return false,
     };
-    called?;
-    Ok(true)
+    values.record(called);
+    true
 }

@@ -1,5 +1,4 @@
 //! Requests on hexadecimal encoding, quoted strings and escapes.
-use crate::{only_bytes, only_string};
 use jj_content::hex_util::{
     common_hex_len, decode_hex, decode_hex_prefix, decode_reverse_hex, decode_reverse_hex_prefix,
     encode_hex, encode_reverse_hex,
@@ -26,51 +25,51 @@ fn put_prefix(values: &mut Values, prefix: Option<(Vec<u8>, bool)>) {
 }
 
 fn decode(alloc: Global, request: &Request, values: &mut Values) -> Result<(), RowError> {
-    put_bytes(values, decode_hex(alloc, only_bytes(request.group(0)?)?)?);
+    put_bytes(values, decode_hex(alloc, request.group(0).only_bytes())?);
     Ok(())
 }
 
 fn decode_reverse(alloc: Global, request: &Request, values: &mut Values) -> Result<(), RowError> {
-    let hex = only_bytes(request.group(0)?)?;
+    let hex = request.group(0).only_bytes();
     put_bytes(values, decode_reverse_hex(alloc, hex)?);
     Ok(())
 }
 
 fn prefix(alloc: Global, request: &Request, values: &mut Values) -> Result<(), RowError> {
-    let hex = only_bytes(request.group(0)?)?;
+    let hex = request.group(0).only_bytes();
     put_prefix(values, decode_hex_prefix(alloc, hex)?);
     Ok(())
 }
 
 fn prefix_reverse(alloc: Global, request: &Request, values: &mut Values) -> Result<(), RowError> {
-    let hex = only_bytes(request.group(0)?)?;
+    let hex = request.group(0).only_bytes();
     put_prefix(values, decode_reverse_hex_prefix(alloc, hex)?);
     Ok(())
 }
 
 fn encode(alloc: Global, request: &Request, values: &mut Values) -> Result<(), RowError> {
-    values.allocated(encode_hex(alloc, only_bytes(request.group(0)?)?));
+    values.allocated(encode_hex(alloc, request.group(0).only_bytes()));
     Ok(())
 }
 
 fn encode_reverse(alloc: Global, request: &Request, values: &mut Values) -> Result<(), RowError> {
-    values.allocated(encode_reverse_hex(alloc, only_bytes(request.group(0)?)?));
+    values.allocated(encode_reverse_hex(alloc, request.group(0).only_bytes()));
     Ok(())
 }
 
 fn common_len(request: &Request, values: &mut Values) -> Result<(), RowError> {
-    let fields = request.group(0)?;
-    values.index(common_hex_len(fields.bytes(0)?, fields.bytes(1)?));
+    let fields = request.group(0);
+    values.index(common_hex_len(fields.bytes(0), fields.bytes(1)));
     Ok(())
 }
 
 fn escape(alloc: Global, request: &Request, values: &mut Values) -> Result<(), RowError> {
-    values.allocated(escape_string(alloc, only_string(request.group(0)?)?));
+    values.allocated(escape_string(alloc, request.group(0).only_string()));
     Ok(())
 }
 
 fn quote(alloc: Global, request: &Request, values: &mut Values) -> Result<(), RowError> {
-    let string = only_string(request.group(0)?)?;
+    let string = request.group(0).only_string();
     let quoted = format_string(alloc, string)?;
     values.string(quoted.as_str());
     let mut written = String::new(alloc);
@@ -81,7 +80,7 @@ fn quote(alloc: Global, request: &Request, values: &mut Values) -> Result<(), Ro
 }
 
 fn unescape(request: &Request, values: &mut Values) -> Result<(), RowError> {
-    match unescape_char(only_string(request.group(0)?)?) {
+    match unescape_char(request.group(0).only_string()) {
         None => values.word("none"),
         Some(c) => {
             values.word("some");
@@ -91,12 +90,7 @@ fn unescape(request: &Request, values: &mut Values) -> Result<(), RowError> {
     Ok(())
 }
 
-pub(crate) fn call(
-    alloc: Global,
-    name: &str,
-    request: &Request,
-    values: &mut Values,
-) -> Result<bool, RowError> {
+pub(crate) fn call(alloc: Global, name: &str, request: &Request, values: &mut Values) -> bool {
     let called = match name {
         "hex-decode" => decode(alloc, request, values),
         "hex-decode-rev" => decode_reverse(alloc, request, values),
@@ -108,8 +102,8 @@ pub(crate) fn call(
         "escape" => escape(alloc, request, values),
         "format" => quote(alloc, request, values),
         "unescape-char" => unescape(request, values),
-        _ => return Ok(false),
+        _ => return false,
     };
-    called?;
-    Ok(true)
+    values.record(called);
+    true
 }

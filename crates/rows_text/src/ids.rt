@@ -67,13 +67,13 @@ fn read_of_kind(
 }
 
 fn id(alloc: Global, request: &Request, values: &mut Values) -> Result<(), RowError> {
-    let fields = request.group(0)?;
-    read_of_kind(alloc, fields.string(0)?, fields.bytes(1)?, values)
+    let fields = request.group(0);
+    read_of_kind(alloc, fields.string(0), fields.bytes(1), values)
 }
 
 // Decodes a change id from reverse hex and appends both encodings, or `none`.
 fn change(alloc: Global, request: &Request, values: &mut Values) -> Result<(), RowError> {
-    let text = request.group(0)?.bytes(0)?;
+    let text = request.group(0).bytes(0);
     let Some(id) = ChangeId::try_from_reverse_hex(alloc, text)? else {
         values.word("none");
         return Ok(());
@@ -85,9 +85,9 @@ fn change(alloc: Global, request: &Request, values: &mut Values) -> Result<(), R
 }
 
 fn compare(alloc: Global, request: &Request, values: &mut Values) -> Result<(), RowError> {
-    let fields = request.group(0)?;
-    let first = CommitId::from_bytes(alloc, fields.bytes(0)?)?;
-    let second = CommitId::from_bytes(alloc, fields.bytes(1)?)?;
+    let fields = request.group(0);
+    let first = CommitId::from_bytes(alloc, fields.bytes(0))?;
+    let second = CommitId::from_bytes(alloc, fields.bytes(1))?;
     values.debug(&first.cmp(&second));
     agree(
         (first == second) == (first.cmp(&second) == Ordering::Equal)
@@ -98,7 +98,7 @@ fn compare(alloc: Global, request: &Request, values: &mut Values) -> Result<(), 
 
 // Appends the JSON and the content of a commit id and a change id with the same bytes.
 fn data(alloc: Global, request: &Request, values: &mut Values) -> Result<(), RowError> {
-    let bytes = request.group(0)?.bytes(0)?;
+    let bytes = request.group(0).bytes(0);
     let commit = CommitId::from_bytes(alloc, bytes)?;
     put_json(alloc, values, &commit)?;
     put_content(alloc, values, &commit)?;
@@ -136,14 +136,14 @@ fn match_prefix(
 }
 
 fn prefix(alloc: Global, request: &Request, values: &mut Values) -> Result<(), RowError> {
-    let fields = request.group(0)?;
-    let (text, id) = (fields.bytes(0)?, fields.bytes(1)?);
+    let fields = request.group(0);
+    let (text, id) = (fields.bytes(0), fields.bytes(1));
     match_prefix(alloc, values, HexPrefix::try_from_hex(alloc, text)?, id)
 }
 
 fn prefix_reverse(alloc: Global, request: &Request, values: &mut Values) -> Result<(), RowError> {
-    let fields = request.group(0)?;
-    let (text, id) = (fields.bytes(0)?, fields.bytes(1)?);
+    let fields = request.group(0);
+    let (text, id) = (fields.bytes(0), fields.bytes(1));
     let prefix = HexPrefix::try_from_reverse_hex(alloc, text)?;
     match_prefix(alloc, values, prefix, id)
 }
@@ -160,9 +160,9 @@ fn resolution(alloc: Global, field: &str) -> Result<PrefixResolution<String>, Ro
 }
 
 fn plus(alloc: Global, request: &Request, values: &mut Values) -> Result<(), RowError> {
-    let fields = request.group(0)?;
-    let left = resolution(alloc, fields.string(0)?)?;
-    let right = resolution(alloc, fields.string(1)?)?;
+    let fields = request.group(0);
+    let left = resolution(alloc, fields.string(0))?;
+    let right = resolution(alloc, fields.string(1))?;
     match left.plus(&right)? {
         PrefixResolution::NoMatch => values.word("no"),
         PrefixResolution::AmbiguousMatch => values.word("ambiguous"),
@@ -173,7 +173,7 @@ fn plus(alloc: Global, request: &Request, values: &mut Values) -> Result<(), Row
 
 // Appends a resolution, mapped to the length of the string, and then filtered to nonempty strings.
 fn map(alloc: Global, request: &Request, values: &mut Values) -> Result<(), RowError> {
-    let field = request.group(0)?.string(0)?;
+    let field = request.group(0).string(0);
     let mapped = resolution(alloc, field)?.map(|string: String| string.len());
     let filtered = resolution(alloc, field)?.filter_map(|string: String| {
         if string.is_empty() {
@@ -192,12 +192,7 @@ fn placeholder(alloc: Global, values: &mut Values) -> Result<(), RowError> {
     Ok(())
 }
 
-pub(crate) fn call(
-    alloc: Global,
-    name: &str,
-    request: &Request,
-    values: &mut Values,
-) -> Result<bool, RowError> {
+pub(crate) fn call(alloc: Global, name: &str, request: &Request, values: &mut Values) -> bool {
     let called = match name {
         "id" => id(alloc, request, values),
         "change-id" => change(alloc, request, values),
@@ -208,8 +203,8 @@ pub(crate) fn call(
         "prefix-rev" => prefix_reverse(alloc, request, values),
         "resolution-plus" => plus(alloc, request, values),
         "resolution-map" => map(alloc, request, values),
-        _ => return Ok(false),
+        _ => return false,
     };
-    called?;
-    Ok(true)
+    values.record(called);
+    true
 }

@@ -1,6 +1,5 @@
 //! Requests on names of refs, remotes and workspaces, and their symbols.
 use crate::content::{content_of, put_content, put_json};
-use crate::only_string;
 use jj_ids::object_id::{ChangeId, CommitId};
 use jj_ids::ref_name::{
     GitRefKind, GitRefName, Name, NameKind, RefKind, RefName, RemoteKind, RemoteName,
@@ -25,16 +24,16 @@ fn symbols_agree(alloc: Global, string: &str, symbol: &str) -> Result<(), RowErr
 }
 
 fn symbol(alloc: Global, request: &Request, values: &mut Values) -> Result<(), RowError> {
-    let string = only_string(request.group(0)?)?;
+    let string = request.group(0).only_string();
     let symbol = format!(in alloc; "{}", RefName::new(string).as_symbol())?;
     values.string(symbol.as_str());
     symbols_agree(alloc, string, symbol.as_str())
 }
 
 fn remote_symbol(alloc: Global, request: &Request, values: &mut Values) -> Result<(), RowError> {
-    let fields = request.group(0)?;
-    let remote = RemoteName::new(fields.string(1)?);
-    let symbol = RefName::new(fields.string(0)?).to_remote_symbol(remote);
+    let fields = request.group(0);
+    let remote = RemoteName::new(fields.string(1));
+    let symbol = RefName::new(fields.string(0)).to_remote_symbol(remote);
     values.display(&symbol);
     owned_symbol_agrees(alloc, symbol)
 }
@@ -53,10 +52,10 @@ fn owned_symbol_agrees(alloc: Global, symbol: RemoteRefSymbol<'_>) -> Result<(),
 
 // Appends the debug forms of a symbol, of a remote symbol, and of its owned form.
 fn symbol_debug(alloc: Global, request: &Request, values: &mut Values) -> Result<(), RowError> {
-    let fields = request.group(0)?;
+    let fields = request.group(0);
     let (name, remote) = (
-        RefName::new(fields.string(0)?),
-        RemoteName::new(fields.string(1)?),
+        RefName::new(fields.string(0)),
+        RemoteName::new(fields.string(1)),
     );
     values.debug(&name.as_symbol());
     let symbol = name.to_remote_symbol(remote);
@@ -72,7 +71,7 @@ fn put_name<K: NameKind>(
     name: Name<'_, K>,
     values: &mut Values,
 ) -> Result<(), RowError> {
-    values.debug(&name);
+    values.allocated(format!(in alloc; "{name:?}"));
     values.allocated(content_of(alloc, &name));
     let owned = name.to_owned(alloc)?;
     values.debug(&owned);
@@ -84,9 +83,9 @@ fn put_name<K: NameKind>(
 }
 
 fn name(alloc: Global, request: &Request, values: &mut Values) -> Result<(), RowError> {
-    let fields = request.group(0)?;
-    let string = fields.string(1)?;
-    match fields.string(0)? {
+    let fields = request.group(0);
+    let string = fields.string(1);
+    match fields.string(0) {
         "git" => put_name::<GitRefKind>(alloc, GitRefName::new(string), values),
         "ref" => put_name::<RefKind>(alloc, RefName::new(string), values),
         "remote" => put_name::<RemoteKind>(alloc, RemoteName::new(string), values),
@@ -129,14 +128,14 @@ fn order_name(order: Ordering) -> &'static str {
 
 // Appends the order of two names, and of the two symbols at remotes.
 fn compare(alloc: Global, request: &Request, values: &mut Values) -> Result<(), RowError> {
-    let fields = request.group(0)?;
+    let fields = request.group(0);
     let (a, b) = (
-        RefName::new(fields.string(0)?),
-        RefName::new(fields.string(1)?),
+        RefName::new(fields.string(0)),
+        RefName::new(fields.string(1)),
     );
     let (c, d) = (
-        RemoteName::new(fields.string(2)?),
-        RemoteName::new(fields.string(3)?),
+        RemoteName::new(fields.string(2)),
+        RemoteName::new(fields.string(3)),
     );
     values.word(order_name(a.cmp(&b)));
     owned_names_agree(alloc, a, b)?;
@@ -161,11 +160,11 @@ fn put_padded<T: fmt::Display>(
 }
 
 fn padded(alloc: Global, request: &Request, values: &mut Values) -> Result<(), RowError> {
-    let fields = request.group(0)?;
-    let (width, precision) = (fields.index(0)?, fields.index(1)?);
+    let fields = request.group(0);
+    let (width, precision) = (fields.index(0), fields.index(1));
     let (name, remote) = (
-        RefName::new(fields.string(2)?),
-        RemoteName::new(fields.string(3)?),
+        RefName::new(fields.string(2)),
+        RemoteName::new(fields.string(3)),
     );
     put_padded(alloc, values, &name.as_symbol(), width, precision);
     let symbol = name.to_remote_symbol(remote);
@@ -175,11 +174,11 @@ fn padded(alloc: Global, request: &Request, values: &mut Values) -> Result<(), R
 }
 
 fn padded_id(alloc: Global, request: &Request, values: &mut Values) -> Result<(), RowError> {
-    let fields = request.group(0)?;
-    let (width, precision) = (fields.index(0)?, fields.index(1)?);
-    let commit = CommitId::from_bytes(alloc, fields.bytes(2)?)?;
+    let fields = request.group(0);
+    let (width, precision) = (fields.index(0), fields.index(1));
+    let commit = CommitId::from_bytes(alloc, fields.bytes(2))?;
     put_padded(alloc, values, &commit, width, precision);
-    let change = ChangeId::from_bytes(alloc, fields.bytes(2)?)?;
+    let change = ChangeId::from_bytes(alloc, fields.bytes(2))?;
     put_padded(alloc, values, &change, width, precision);
     Ok(())
 }
@@ -194,7 +193,7 @@ pub(crate) fn call(
     called_name: &str,
     request: &Request,
     values: &mut Values,
-) -> Result<bool, RowError> {
+) -> bool {
     let called = match called_name {
         "symbol" => symbol(alloc, request, values),
         "remote-symbol" => remote_symbol(alloc, request, values),
@@ -204,8 +203,8 @@ pub(crate) fn call(
         "padded" => padded(alloc, request, values),
         "padded-id" => padded_id(alloc, request, values),
         "workspace-default" => default_workspace(values),
-        _ => return Ok(false),
+        _ => return false,
     };
-    called?;
-    Ok(true)
+    values.record(called);
+    true
 }

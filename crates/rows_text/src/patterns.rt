@@ -2,7 +2,7 @@
 ghost use Rattle.std.specs.Iterator.{IsFinite};
 
 use jj_strings::str_util::{
-    StringExpression, StringMatcher, StringPattern, StringPatternParseError,
+    StringExpression, StringMatcher, StringPattern, StringPatternParseError, StringSearcher,
 };
 use rows::request::{Fields, Request};
 use rows::row_error::{RowError, agree};
@@ -16,6 +16,10 @@ fn pattern_of(alloc: Global, kind: &str, string: &str) -> Result<StringPattern, 
         Err(StringPatternParseError::Memory) => Err(RowError::Memory),
         Err(_) => Err(RowError::Precondition("a pattern")),
     }
+}
+
+fn matcher_of(alloc: Global, kind: &str, string: &str) -> Result<StringMatcher, RowError> {
+    Ok(pattern_of(alloc, kind, string)?.to_matcher(alloc)?)
 }
 
 fn put_error(alloc: Global, values: &mut Values, error: &StringPatternParseError) {
@@ -33,6 +37,12 @@ fn put_error(alloc: Global, values: &mut Values, error: &StringPatternParseError
     }
 }
 
+fn copy_agrees(alloc: Global, pattern: &StringPattern) -> Result<(), RowError> {
+    let copy = pattern.clone()?;
+    let shown = format!(in alloc; "{pattern:?}")?;
+    agree(shown == format!(in alloc; "{copy:?}")?, "copy of a pattern")
+}
+
 fn put_pattern(
     alloc: Global,
     values: &mut Values,
@@ -43,20 +53,18 @@ fn put_pattern(
     values.string(pattern.as_str());
     values.flag(pattern.is_all());
     values.option_string(pattern.as_exact());
+    values.debug(&pattern.to_matcher(alloc)?);
     agree(
         pattern.is_exact() == pattern.as_exact().is_some(),
         "exact patterns",
     )?;
-    values.debug(&pattern.to_matcher(alloc)?);
-    let shown = format!(in alloc; "{pattern:?}")?;
-    let copy = format!(in alloc; "{:?}", pattern.clone()?)?;
-    agree(shown == copy, "copy of a pattern")
+    copy_agrees(alloc, pattern)
 }
 
 // Parses a pattern, and appends its forms or the error.
 fn pattern(alloc: Global, request: &Request, values: &mut Values) -> Result<(), RowError> {
-    let fields = request.group(0)?;
-    match StringPattern::from_str_kind(alloc, fields.string(1)?, fields.string(0)?) {
+    let fields = request.group(0);
+    match StringPattern::from_str_kind(alloc, fields.string(1), fields.string(0)) {
         Ok(pattern) => put_pattern(alloc, values, &pattern),
         Err(StringPatternParseError::Memory) => Err(RowError::Memory),
         Err(error) => {
@@ -66,7 +74,24 @@ fn pattern(alloc: Global, request: &Request, values: &mut Values) -> Result<(), 
     }
 }
 
-// Appends the strings that match. Fails unless the three ways to match agree.
+// Returns whether a matcher matches a string. Fails unless the three ways to match agree.
+fn is_match(
+    alloc: Global,
+    matcher: &StringMatcher,
+    searcher: &mut StringSearcher<'_>,
+    bytes: &[u8],
+) -> Result<bool, RowError> {
+    let is_match = matcher.is_match_bytes(alloc, bytes)?;
+    let is_found = searcher.is_match_bytes(bytes)?;
+    agree(is_found == is_match, "a searcher")?;
+    if let Ok(string) = str::from_utf8(bytes) {
+        let is_string_match = matcher.is_match(alloc, string)?;
+        agree(is_string_match == is_match, "a match of a string")?;
+    }
+    Ok(is_match)
+}
+
+// Appends the strings that match.
 fn put_matches(
     alloc: Global,
     values: &mut Values,
@@ -75,38 +100,41 @@ fn put_matches(
 ) -> Result<(), RowError> {
     let mut searcher = matcher.searcher(alloc);
     for index in 0..strings.len() {
-        let bytes = strings.bytes(index)?;
-        let is_match = matcher.is_match_bytes(alloc, bytes)?;
-        if is_match {
+        let bytes = strings.bytes(index);
+        if is_match(alloc, matcher, &mut searcher, bytes)? {
             values.bytes(bytes);
-        }
-        agree(searcher.is_match_bytes(bytes)? == is_match, "a searcher")?;
-        if let Ok(string) = str::from_utf8(bytes) {
-            agree(
-                matcher.is_match(alloc, string)? == is_match,
-                "a match of a string",
-            )?;
         }
     }
     Ok(())
 }
 
 // Appends the strings that a pattern matches.
+fn put_pattern_matches(
+    alloc: Global,
+    values: &mut Values,
+    kind: &str,
+    string: &str,
+    strings: &Fields,
+) -> Result<(), RowError> {
+    let matcher = matcher_of(alloc, kind, string)?;
+    put_matches(alloc, values, &matcher, strings)
+}
+
+// Appends the strings that a pattern matches.
 fn matches(alloc: Global, request: &Request, values: &mut Values) -> Result<(), RowError> {
-    let fields = request.group(0)?;
-    let matcher = pattern_of(alloc, fields.string(0)?, fields.string(1)?)?.to_matcher(alloc)?;
-    put_matches(alloc, values, &matcher, request.group(1)?)
+    let (fields, strings) = (request.group(0), request.group(1));
+    put_pattern_matches(alloc, values, fields.string(0), fields.string(1), strings)
 }
 
 // Appends the debug form of a matcher of all strings or of one, and the strings that match.
 fn matcher(alloc: Global, request: &Request, values: &mut Values) -> Result<(), RowError> {
-    let fields = request.group(0)?;
-    let matcher = match fields.string(0)? {
+    let fields = request.group(0);
+    let matcher = match fields.string(0) {
         "all" => StringMatcher::all(),
-        _ => StringMatcher::exact(String::from_str(alloc, fields.string(1)?)?),
+        _ => StringMatcher::exact(String::from_str(alloc, fields.string(1))?),
     };
     values.debug(&matcher);
-    put_matches(alloc, values, &matcher, request.group(1)?)
+    put_matches(alloc, values, &matcher, request.group(1))
 }
 
 fn put_regex_matches(
@@ -121,7 +149,7 @@ fn put_regex_matches(
         Err(_) => return Err(RowError::Disagreement("a pattern without a regular expression")),
     };
     for index in 0..strings.len() {
-        let bytes = strings.bytes(index)?;
+        let bytes = strings.bytes(index);
         if regex.matcher(alloc)?.is_match(bytes) {
             values.bytes(bytes);
         }
@@ -131,23 +159,22 @@ fn put_regex_matches(
 
 // Appends the strings that a pattern's regular expression matches.
 fn regex(alloc: Global, request: &Request, values: &mut Values) -> Result<(), RowError> {
-    let fields = request.group(0)?;
-    let pattern = pattern_of(alloc, fields.string(0)?, fields.string(1)?)?;
-    put_regex_matches(alloc, values, &pattern, request.group(1)?)
+    let fields = request.group(0);
+    let pattern = pattern_of(alloc, fields.string(0), fields.string(1))?;
+    put_regex_matches(alloc, values, &pattern, request.group(1))
 }
 
 // Appends a pattern as a glob, and the strings that the glob matches.
 fn glob(alloc: Global, request: &Request, values: &mut Values) -> Result<(), RowError> {
-    let fields = request.group(0)?;
-    let pattern = pattern_of(alloc, fields.string(0)?, fields.string(1)?)?;
+    let fields = request.group(0);
+    let pattern = pattern_of(alloc, fields.string(0), fields.string(1))?;
     let Some(glob) = pattern.to_glob(alloc)? else {
         values.word("none");
         return Ok(());
     };
     values.word("some");
     values.string(glob.as_str());
-    let matcher = pattern_of(alloc, "glob", glob.as_str())?.to_matcher(alloc)?;
-    put_matches(alloc, values, &matcher, request.group(1)?)
+    put_pattern_matches(alloc, values, "glob", glob.as_str(), request.group(1))
 }
 
 fn pop(stack: &mut Vec<StringExpression>) -> Result<StringExpression, RowError> {
@@ -210,16 +237,18 @@ fn step(alloc: Global, stack: &mut Vec<StringExpression>, token: &str) -> Result
 fn expression_of(alloc: Global, tokens: &Fields) -> Result<StringExpression, RowError> {
     let mut stack = Vec::new(alloc);
     for index in 0..tokens.len() {
-        step(alloc, &mut stack, tokens.string(index)?)?;
+        step(alloc, &mut stack, tokens.string(index))?;
     }
     pop(&mut stack)
 }
 
-fn put_exact_strings(
+fn put_expression(
     alloc: Global,
     values: &mut Values,
     expression: &StringExpression,
 ) -> Result<(), RowError> {
+    values.debug(expression);
+    values.debug(&expression.to_matcher(alloc)?);
     for string in expression.exact_strings(alloc)? {
         values.string(string);
     }
@@ -228,10 +257,9 @@ fn put_exact_strings(
 
 // Appends the debug forms of a postfix expression and its matcher, and its exact strings.
 fn expression(alloc: Global, request: &Request, values: &mut Values) -> Result<(), RowError> {
-    let expression = expression_of(alloc, request.group(0)?)?;
-    values.debug(&expression);
-    values.debug(&expression.clone()?.to_matcher(alloc)?);
-    put_exact_strings(alloc, values, &expression)
+    let expression = expression_of(alloc, request.group(0))?;
+    let copy = expression.clone()?;
+    put_expression(alloc, values, &copy)
 }
 
 // Appends the strings that a postfix expression matches.
@@ -240,8 +268,8 @@ fn expression_matches(
     request: &Request,
     values: &mut Values,
 ) -> Result<(), RowError> {
-    let matcher = expression_of(alloc, request.group(0)?)?.to_matcher(alloc)?;
-    put_matches(alloc, values, &matcher, request.group(1)?)
+    let matcher = expression_of(alloc, request.group(0))?.to_matcher(alloc)?;
+    put_matches(alloc, values, &matcher, request.group(1))
 }
 
 // Collects an iterator, up to its first error.
@@ -259,14 +287,23 @@ fn items_of<T: Drop, I: Iterator<Item = Result<T, AllocError>> + Drop>(
     Ok(items)
 }
 
-// Appends the lines of a string that a pattern matches.
-fn lines(alloc: Global, request: &Request, values: &mut Values) -> Result<(), RowError> {
-    let fields = request.group(0)?;
-    let bytes = fields.bytes(2)?;
-    let matcher = pattern_of(alloc, fields.string(0)?, fields.string(1)?)?.to_matcher(alloc)?;
+fn put_lines(
+    alloc: Global,
+    values: &mut Values,
+    matcher: &StringMatcher,
+    bytes: &[u8],
+) -> Result<(), AllocError> {
     for line in items_of(alloc, matcher.match_lines(alloc, bytes))? {
         values.bytes(line);
     }
+    Ok(())
+}
+
+// Appends the lines of a string that a pattern matches.
+fn lines(alloc: Global, request: &Request, values: &mut Values) -> Result<(), RowError> {
+    let fields = request.group(0);
+    let matcher = matcher_of(alloc, fields.string(0), fields.string(1))?;
+    put_lines(alloc, values, &matcher, fields.bytes(2))?;
     Ok(())
 }
 
@@ -278,35 +315,41 @@ fn push_repeated(string: &mut String, part: &str, times: u64) -> Result<(), Allo
 }
 
 // Parses pairs of a string and its number of repetitions, and concatenates them.
-fn repeated(alloc: Global, fields: &Fields, start: usize) -> Result<String, RowError> {
+fn repeated(alloc: Global, fields: &Fields, start: usize) -> Result<String, AllocError> {
     let mut string = String::new(alloc);
     for index in start..fields.len() {
         if index % 2 == start % 2 {
-            let times = fields.number(index.saturating_add(1))?;
-            push_repeated(&mut string, fields.string(index)?, times)?;
+            let times = fields.number(index.saturating_add(1));
+            push_repeated(&mut string, fields.string(index), times)?;
         }
     }
     Ok(string)
 }
 
+fn repeated_matcher(alloc: Global, fields: &Fields) -> Result<StringMatcher, RowError> {
+    let pattern = repeated(alloc, fields, 1)?;
+    matcher_of(alloc, fields.string(0), pattern.as_str())
+}
+
+fn matches_parts(
+    alloc: Global,
+    matcher: &StringMatcher,
+    parts: &Fields,
+) -> Result<bool, AllocError> {
+    let string = repeated(alloc, parts, 0)?;
+    matcher.is_match(alloc, string.as_str())
+}
+
 // Appends whether a pattern with repeated parts matches strings with repeated parts.
 fn matches_repeated(alloc: Global, request: &Request, values: &mut Values) -> Result<(), RowError> {
-    let fields = request.group(0)?;
-    let pattern = repeated(alloc, fields, 1)?;
-    let matcher = pattern_of(alloc, fields.string(0)?, pattern.as_str())?.to_matcher(alloc)?;
-    for strings in request.groups().iter().skip(1) {
-        let string = repeated(alloc, strings, 0)?;
-        values.flag(matcher.is_match(alloc, string.as_str())?);
+    let matcher = repeated_matcher(alloc, request.group(0))?;
+    for parts in request.groups().iter().skip(1) {
+        values.flag(matches_parts(alloc, &matcher, parts)?);
     }
     Ok(())
 }
 
-pub(crate) fn call(
-    alloc: Global,
-    name: &str,
-    request: &Request,
-    values: &mut Values,
-) -> Result<bool, RowError> {
+pub(crate) fn call(alloc: Global, name: &str, request: &Request, values: &mut Values) -> bool {
     let called = match name {
         "pattern" => pattern(alloc, request, values),
         "matches" => matches(alloc, request, values),
@@ -317,8 +360,8 @@ pub(crate) fn call(
         "expression-matches" => expression_matches(alloc, request, values),
         "match-lines" => lines(alloc, request, values),
         "matches-repeated" => matches_repeated(alloc, request, values),
-        _ => return Ok(false),
+        _ => return false,
     };
-    called?;
-    Ok(true)
+    values.record(called);
+    true
 }

@@ -3,12 +3,12 @@ use crate::trees::{error_name, expect_ok};
 use crate::values::tree_of;
 use jj_backend::backend::{
     Backend, BackendError, BackendResult, Commit, CommitId, CopyHistory, CopyId, FileId, NoSigner,
-    SecureSig, SigningFn, SymlinkId, TreeId,
+    SecureSig, SigningFn, SymlinkId, Tree, TreeId,
 };
 use jj_backend::signing::{SignError, SignResult};
 use jj_content::hex_util::encode_hex;
 use jj_files::file_util::{SourceError, SourceKind};
-use jj_ids::object_id::{Id, IdKind, ObjectId};
+use jj_ids::object_id::ObjectId;
 use jj_paths::repo_path::{RepoPath, RepoPathBuf};
 use jj_trees::memory_backend::MemoryBackend;
 use rows::request::{Fields, Request};
@@ -47,8 +47,7 @@ fn write_read<T: Drop>(read: BackendResult<T>, values: &mut Values) -> Result<()
 }
 
 // `memory-backend LENGTH`: name, concurrency, lengths and ids of a backend without writes.
-fn backend(alloc: Global, request: &Request, values: &mut Values) -> Result<(), RowError> {
-    let backend = backend_of(alloc, request.group(0)?.index(0)?)?;
+fn describe(alloc: Global, backend: &MemoryBackend, values: &mut Values) -> Result<(), RowError> {
     values.word(backend.name());
     values.index(backend.concurrency());
     values.index(backend.commit_id_length());
@@ -73,10 +72,13 @@ fn is_root_commit(backend: &MemoryBackend, commit: &Commit) -> bool {
 }
 
 // `memory-root LENGTH`: whether the root commit has no parents and the empty tree.
-fn root_commit(alloc: Global, request: &Request, values: &mut Values) -> Result<(), RowError> {
-    let backend = backend_of(alloc, request.group(0)?.index(0)?)?;
+fn root_commit(
+    alloc: Global,
+    backend: &MemoryBackend,
+    values: &mut Values,
+) -> Result<(), RowError> {
     let commit = expect_ok(backend.read_commit(alloc, backend.root_commit_id()))?;
-    values.flag(is_root_commit(&backend, &commit));
+    values.flag(is_root_commit(backend, &commit));
     Ok(())
 }
 
@@ -131,34 +133,43 @@ fn read_commit(
 }
 
 // `memory-missing ID`: the errors of reads of a file, a tree, a symlink, a copy and a commit.
-fn missing(alloc: Global, request: &Request, values: &mut Values) -> Result<(), RowError> {
-    let id = request.group(0)?.bytes(0)?;
-    let backend = MemoryBackend::new(alloc)?;
-    read_file(alloc, &backend, id, values)?;
-    read_tree(alloc, &backend, id, values)?;
-    read_symlink(alloc, &backend, id, values)?;
-    read_copy(alloc, &backend, id, values)?;
-    read_commit(alloc, &backend, id, values)
+fn missing(
+    alloc: Global,
+    backend: &MemoryBackend,
+    id: &[u8],
+    values: &mut Values,
+) -> Result<(), RowError> {
+    read_file(alloc, backend, id, values)?;
+    read_tree(alloc, backend, id, values)?;
+    read_symlink(alloc, backend, id, values)?;
+    read_copy(alloc, backend, id, values)?;
+    read_commit(alloc, backend, id, values)
 }
 
-fn put_file(
+fn is_file(
+    alloc: Global,
+    backend: &MemoryBackend,
+    id: &FileId,
+    contents: &[u8],
+) -> Result<bool, RowError> {
+    let read = expect_ok(backend.read_file(alloc, RepoPath::root(), id))?;
+    Ok(read.as_slice() == contents)
+}
+
+// `memory-file LENGTH CONTENTS`: the id. A second write returns the same one.
+fn file(
     alloc: Global,
     backend: &mut MemoryBackend,
     contents: &[u8],
     values: &mut Values,
 ) -> Result<(), RowError> {
     let id = expect_ok(backend.write_file(alloc, RepoPath::root(), contents))?;
-    let again = expect_ok(backend.write_file(alloc, RepoPath::root(), contents))?;
     values.allocated(id.hex(alloc));
-    let read = expect_ok(backend.read_file(alloc, RepoPath::root(), &id))?;
-    agree(again == id && read.as_slice() == contents, "a file")
-}
-
-// `memory-file LENGTH CONTENTS`: the id. A second write returns the same one.
-fn file(alloc: Global, request: &Request, values: &mut Values) -> Result<(), RowError> {
-    let contents = request.group(0)?.bytes(1)?;
-    let mut backend = backend_of(alloc, request.group(0)?.index(0)?)?;
-    put_file(alloc, &mut backend, contents, values)
+    let again = expect_ok(backend.write_file(alloc, RepoPath::root(), contents))?;
+    agree(
+        again == id && is_file(alloc, backend, &id, contents)?,
+        "a file",
+    )
 }
 
 // A file of the same id does not count.
@@ -185,11 +196,14 @@ fn put_symlink(
 }
 
 // `memory-symlink LENGTH TARGET`: the error of a read of the file of this id, and the id.
-fn symlink(alloc: Global, request: &Request, values: &mut Values) -> Result<(), RowError> {
-    let target = request.group(0)?.string(1)?;
-    let mut backend = backend_of(alloc, request.group(0)?.index(0)?)?;
-    read_file_as_symlink(alloc, &mut backend, target, values)?;
-    put_symlink(alloc, &mut backend, target, values)
+fn symlink(
+    alloc: Global,
+    backend: &mut MemoryBackend,
+    target: &str,
+    values: &mut Values,
+) -> Result<(), RowError> {
+    read_file_as_symlink(alloc, backend, target, values)?;
+    put_symlink(alloc, backend, target, values)
 }
 
 fn path_of(alloc: Global, path: &str) -> Result<RepoPathBuf, RowError> {
@@ -199,45 +213,87 @@ fn path_of(alloc: Global, path: &str) -> Result<RepoPathBuf, RowError> {
     }
 }
 
-fn copy_history(alloc: Global, request: &Request) -> Result<CopyHistory, RowError> {
-    let fields = request.group(0)?;
-    let mut parents = Vec::new(alloc);
-    for index in 0..request.group(1)?.len() {
-        parents.push(CopyId::from_bytes(alloc, request.group(1)?.bytes(index)?)?)?;
+fn copy_ids(alloc: Global, fields: &Fields) -> Result<Vec<CopyId>, AllocError> {
+    let mut ids = Vec::new(alloc);
+    for index in 0..fields.len() {
+        ids.push(CopyId::from_bytes(alloc, fields.bytes(index))?)?;
     }
-    let salt = Vec::from_slice(alloc, fields.bytes(2)?)?;
+    Ok(ids)
+}
+
+fn copy_history(alloc: Global, request: &Request) -> Result<CopyHistory, RowError> {
+    let fields = request.group(0);
+    let current_path = path_of(alloc, fields.string(1))?;
+    let parents = copy_ids(alloc, request.group(1))?;
     Ok(CopyHistory {
-        current_path: path_of(alloc, fields.string(1)?)?,
+        current_path,
         parents,
-        salt,
+        salt: Vec::from_slice(alloc, fields.bytes(2))?,
     })
 }
 
-// `memory-copy LENGTH PATH SALT | PARENT ..`: the id of a copy history.
-fn copy(alloc: Global, request: &Request, values: &mut Values) -> Result<(), RowError> {
-    let mut backend = backend_of(alloc, request.group(0)?.index(0)?)?;
-    let history = copy_history(alloc, request)?;
-    let id = expect_ok(backend.write_copy(alloc, &history))?;
+fn put_copy(
+    alloc: Global,
+    backend: &mut MemoryBackend,
+    history: &CopyHistory,
+    values: &mut Values,
+) -> Result<(), RowError> {
+    let id = expect_ok(backend.write_copy(alloc, history))?;
     values.allocated(id.hex(alloc));
     let read = expect_ok(backend.read_copy(alloc, &id))?;
-    agree(read == history, "a copy history")
+    agree(read == *history, "a copy history")
+}
+
+// `memory-copy LENGTH PATH SALT | PARENT ..`: the id of a copy history.
+fn copy(
+    alloc: Global,
+    backend: &mut MemoryBackend,
+    request: &Request,
+    values: &mut Values,
+) -> Result<(), RowError> {
+    let history = copy_history(alloc, request)?;
+    put_copy(alloc, backend, &history, values)
+}
+
+fn put_tree(
+    alloc: Global,
+    backend: &mut MemoryBackend,
+    tree: &Tree,
+    values: &mut Values,
+) -> Result<(), RowError> {
+    let id = expect_ok(backend.write_tree(alloc, RepoPath::root(), tree))?;
+    values.allocated(id.hex(alloc));
+    let read = expect_ok(backend.read_tree(alloc, RepoPath::root(), &id))?;
+    agree(read == *tree, "a tree")
 }
 
 // `memory-tree LENGTH | ENTRY ..`: the id of a tree.
-fn tree(alloc: Global, request: &Request, values: &mut Values) -> Result<(), RowError> {
-    let mut backend = backend_of(alloc, request.group(0)?.index(0)?)?;
-    let tree = tree_of(alloc, request.group(1)?)?;
-    let id = expect_ok(backend.write_tree(alloc, RepoPath::root(), &tree))?;
-    values.allocated(id.hex(alloc));
-    let read = expect_ok(backend.read_tree(alloc, RepoPath::root(), &id))?;
-    agree(read == tree, "a tree")
+fn tree(
+    alloc: Global,
+    backend: &mut MemoryBackend,
+    entries: &Fields,
+    values: &mut Values,
+) -> Result<(), RowError> {
+    let tree = tree_of(alloc, entries)?;
+    put_tree(alloc, backend, &tree, values)
+}
+
+fn get_related(
+    alloc: Global,
+    backend: &MemoryBackend,
+    values: &mut Values,
+) -> Result<(), RowError> {
+    let id = CopyId::from_bytes(alloc, b"\x01")?;
+    write_read(backend.get_related_copies(alloc, &id), values)
 }
 
 // `memory-unsupported`: the errors of the two calls on copies.
-fn unsupported(alloc: Global, values: &mut Values) -> Result<(), RowError> {
-    let backend = MemoryBackend::new(alloc)?;
-    let id = CopyId::from_bytes(alloc, b"\x01")?;
-    write_read(backend.get_related_copies(alloc, &id), values)?;
+fn unsupported(
+    alloc: Global,
+    backend: &MemoryBackend,
+    values: &mut Values,
+) -> Result<(), RowError> {
+    get_related(alloc, backend, values)?;
     let root = backend.root_commit_id();
     write_read(backend.get_copy_records(alloc, None, root, root), values)
 }
@@ -288,12 +344,11 @@ fn behavior_of(name: &str) -> Result<Option<Behavior>, RowError> {
 // DESCRIPTION IS_ROOT: the root commit with this description, and with itself as parent unless
 // IS_ROOT is set.
 fn commit_of(alloc: Global, backend: &MemoryBackend, fields: &Fields) -> Result<Commit, RowError> {
-    let is_root = fields.flag(2)?;
-    let description = String::from_str(alloc, fields.string(1)?)?;
-    let mut commit = expect_ok(backend.read_commit(alloc, backend.root_commit_id()))?;
-    commit.description = description;
-    if !is_root {
-        commit.parents.push(backend.root_commit_id().clone()?)?;
+    let root = backend.root_commit_id();
+    let mut commit = expect_ok(backend.read_commit(alloc, root))?;
+    commit.description = fields.owned(1)?;
+    if !fields.flag(2) {
+        commit.parents.push(root.clone()?)?;
     }
     Ok(commit)
 }
@@ -330,7 +385,7 @@ fn write_with(
     fields: &Fields,
     values: &mut Values,
 ) -> Result<Written, RowError> {
-    let Some(behavior) = behavior_of(fields.string(3)?)? else {
+    let Some(behavior) = behavior_of(fields.string(3))? else {
         return write_unsigned(alloc, backend, fields);
     };
     let mut signer = RecordingSigner {
@@ -359,34 +414,59 @@ fn put_commit(
 
 // `memory-commit LENGTH DESCRIPTION IS_ROOT SIGNER`: the id of a commit on the root commit and
 // whether it is signed, after the signer's number of calls and the data that it signed.
-fn commit(alloc: Global, request: &Request, values: &mut Values) -> Result<(), RowError> {
-    let fields = request.group(0)?;
-    let mut backend = backend_of(alloc, fields.index(0)?)?;
-    match write_with(alloc, &mut backend, fields, values)? {
-        Ok(written) => put_commit(alloc, &backend, &written, values),
+fn commit(
+    alloc: Global,
+    backend: &mut MemoryBackend,
+    fields: &Fields,
+    values: &mut Values,
+) -> Result<(), RowError> {
+    match write_with(alloc, backend, fields, values)? {
+        Ok(written) => put_commit(alloc, backend, &written, values),
         Err(error) => write_error(&error, values),
     }
 }
 
-/// Runs the request of this name. Returns `false` if there is none.
-pub fn call(
+// Runs the request of this name on a backend without writes.
+fn run(
+    alloc: Global,
+    name: &str,
+    backend: &mut MemoryBackend,
+    request: &Request,
+    values: &mut Values,
+) -> Result<(), RowError> {
+    match name {
+        "memory-backend" => describe(alloc, backend, values),
+        "memory-root" => root_commit(alloc, backend, values),
+        "memory-missing" => missing(alloc, backend, request.group(0).bytes(0), values),
+        "memory-file" => file(alloc, backend, request.group(0).bytes(1), values),
+        "memory-symlink" => symlink(alloc, backend, request.group(0).string(1), values),
+        "memory-copy" => copy(alloc, backend, request, values),
+        "memory-tree" => tree(alloc, backend, request.group(1), values),
+        "memory-unsupported" => unsupported(alloc, backend, values),
+        "memory-commit" => commit(alloc, backend, request.group(0), values),
+        _ => Err(RowError::Unreadable("no such request")),
+    }
+}
+
+fn run_by_length(
     alloc: Global,
     name: &str,
     request: &Request,
     values: &mut Values,
-) -> Result<bool, RowError> {
-    let called = match name {
-        "memory-backend" => backend(alloc, request, values),
-        "memory-root" => root_commit(alloc, request, values),
-        "memory-missing" => missing(alloc, request, values),
-        "memory-file" => file(alloc, request, values),
-        "memory-symlink" => symlink(alloc, request, values),
-        "memory-copy" => copy(alloc, request, values),
-        "memory-tree" => tree(alloc, request, values),
-        "memory-unsupported" => unsupported(alloc, values),
-        "memory-commit" => commit(alloc, request, values),
-        _ => return Ok(false),
+) -> Result<(), RowError> {
+    let mut backend = match name {
+        "memory-missing" | "memory-unsupported" => MemoryBackend::new(alloc)?,
+        _ => backend_of(alloc, request.group(0).index(0))?,
     };
-    called?;
-    Ok(true)
+    run(alloc, name, &mut backend, request, values)
+}
+
+/// Runs the request of this name. Returns `false` if there is none.
+pub fn call(alloc: Global, name: &str, request: &Request, values: &mut Values) -> bool {
+    if !name.starts_with("memory-") {
+        return false;
+    }
+    let called = run_by_length(alloc, name, request, values);
+    values.record(called);
+    true
 }

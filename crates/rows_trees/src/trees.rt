@@ -10,7 +10,7 @@ use jj_backend::backend::{
 };
 use jj_merges::conflict_labels::ConflictLabels;
 use jj_merges::merge::{Diff, Merge, SameChange};
-use jj_paths::repo_path::{RepoPath, RepoPathBuf, RepoPathComponentBuf};
+use jj_paths::repo_path::{RepoPath, RepoPathComponentBuf};
 use jj_trees::memory_backend::MemoryBackend;
 use jj_trees::tree_merge::{TreeMerge, merge_trees, merge_trees_within};
 use rows::request::{Fields, Request};
@@ -112,6 +112,17 @@ fn entry_parts(entry: &str) -> Option<(&str, u8, u8)> {
     }
 }
 
+fn entry_of(
+    alloc: Global,
+    backend: &mut MemoryBackend,
+    trees: &[(u8, TreeId)],
+    parts: (&str, u8, u8),
+) -> Result<(RepoPathComponentBuf, TreeValue), RowError> {
+    let (name, kind, digit) = parts;
+    let value = value_of(alloc, backend, trees, kind, digit)?;
+    Ok((name_of(alloc, name)?, value))
+}
+
 // Entries such as `x=f0 y=t1`.
 fn entries_of(
     alloc: Global,
@@ -121,12 +132,20 @@ fn entries_of(
 ) -> Result<Entries, RowError> {
     let mut parsed = Vec::new(alloc);
     for entry in entries.split(' ') {
-        if let Some((name, kind, digit)) = entry_parts(entry) {
-            let value = value_of(alloc, backend, trees, kind, digit)?;
-            parsed.push((name_of(alloc, name)?, value))?;
+        if let Some(parts) = entry_parts(entry) {
+            parsed.push(entry_of(alloc, backend, trees, parts)?)?;
         }
     }
     Ok(parsed)
+}
+
+// The digit and the entries of a tree such as `3:x=f0 y=t1`.
+fn tree_parts(tree: &str) -> Result<(u8, &str), RowError> {
+    let (digit, entries) = tree.split_once(':').unwrap_or((tree, ""));
+    match digit.as_bytes() {
+        [digit] => Ok((*digit, entries)),
+        _ => Err(RowError::Unreadable("digit of a tree")),
+    }
 }
 
 // Writes a tree such as `3:x=f0 y=t1`, whose digit is 3.
@@ -136,16 +155,10 @@ fn write_tree(
     trees: &[(u8, TreeId)],
     tree: &str,
 ) -> Result<(u8, TreeId), RowError> {
-    let (digit, entries) = match tree.split_once(':') {
-        Some(parts) => parts,
-        None => return Err(RowError::Unreadable("tree")),
-    };
-    let [digit] = digit.as_bytes() else {
-        return Err(RowError::Unreadable("digit"));
-    };
+    let (digit, entries) = tree_parts(tree)?;
     let tree = tree_of_entries(entries_of(alloc, backend, trees, entries)?)?;
     let id = expect_ok(backend.write_tree(alloc, RepoPath::root(), &tree))?;
-    Ok((*digit, id))
+    Ok((digit, id))
 }
 
 fn write_trees(
@@ -155,10 +168,34 @@ fn write_trees(
 ) -> Result<Trees, RowError> {
     let mut trees = Vec::new(alloc);
     for index in 0..fields.len() {
-        let tree = write_tree(alloc, backend, &trees, fields.string(index)?)?;
+        let tree = write_tree(alloc, backend, &trees, fields.string(index))?;
         trees.push(tree)?;
     }
     Ok(trees)
+}
+
+fn diff_of(
+    alloc: Global,
+    trees: &[(u8, TreeId)],
+    before: u8,
+    after: u8,
+) -> Result<Diff<TreeId>, AllocError> {
+    let before = tree_of(alloc, trees, before)?;
+    Ok(Diff::new(before, tree_of(alloc, trees, after)?))
+}
+
+fn diffs_of(
+    alloc: Global,
+    trees: &[(u8, TreeId)],
+    digits: &[u8],
+) -> Result<Vec<Diff<TreeId>>, AllocError> {
+    let mut diffs = Vec::new(alloc);
+    for pair in digits.chunks(2) {
+        if let [before, after] = pair {
+            diffs.push(diff_of(alloc, trees, *before, *after)?)?;
+        }
+    }
+    Ok(diffs)
 }
 
 // The merge of the root trees with these digits.
@@ -170,83 +207,59 @@ fn roots_of(
     let [first, rest @ ..] = digits else {
         return Err(RowError::Unreadable("no root tree"));
     };
-    let mut diffs = Vec::new(alloc);
-    for pair in rest.chunks(2) {
-        if let [before, after] = pair {
-            let before = tree_of(alloc, trees, *before)?;
-            diffs.push(Diff::new(before, tree_of(alloc, trees, *after)?))?;
-        }
-    }
-    Ok(Merge::from_diffs(alloc, tree_of(alloc, trees, *first)?, diffs)?)
+    let first = tree_of(alloc, trees, *first)?;
+    Ok(Merge::from_diffs(alloc, first, diffs_of(alloc, trees, rest)?)?)
 }
 
-fn push_bytes(bytes: &[u8], text: &mut String) -> Result<(), AllocError> {
-    for byte in bytes {
-        text.push(char::from(*byte))?;
+fn append_digits(trees: &[(u8, TreeId)], id: &TreeId, values: &mut Values) {
+    for (digit, tree) in trees {
+        if tree == id {
+            values.append(&[*digit]);
+        }
     }
-    Ok(())
 }
 
 // Appends `f` and the file's digit, or `t` and the digits of the trees with this id.
-fn push_value(
+fn append_value(
     alloc: Global,
     backend: &MemoryBackend,
     trees: &[(u8, TreeId)],
     value: &TreeValue,
-    text: &mut String,
+    values: &mut Values,
 ) -> Result<(), RowError> {
     match value {
         TreeValue::File { id, .. } => {
-            text.push('f')?;
+            values.append(b"f");
             let bytes = expect_ok(backend.read_file(alloc, RepoPath::root(), id))?;
-            push_bytes(&bytes, text)?;
+            values.append(bytes.as_slice());
         }
         TreeValue::Tree(id) => {
-            text.push('t')?;
-            for (digit, tree) in trees {
-                if tree == id {
-                    text.push(char::from(*digit))?;
-                }
-            }
+            values.append(b"t");
+            append_digits(trees, id, values);
         }
-        _ => text.push('?')?,
+        _ => values.append(b"?"),
     }
     Ok(())
 }
 
-fn resolved_text(
+// Appends the terms of a conflict; an absent term is `-`.
+fn append_terms(
     alloc: Global,
     backend: &MemoryBackend,
     trees: &[(u8, TreeId)],
-    path: &RepoPathBuf,
-    value: &TreeValue,
-) -> Result<String, RowError> {
-    let mut text = String::from_str(alloc, path.as_path().as_internal_file_string())?;
-    text.push('=')?;
-    push_value(alloc, backend, trees, value, &mut text)?;
-    Ok(text)
-}
-
-// `path!TERMS`; an absent term is `-`.
-fn conflict_text(
-    alloc: Global,
-    backend: &MemoryBackend,
-    trees: &[(u8, TreeId)],
-    path: &RepoPathBuf,
     terms: &[Option<TreeValue>],
-) -> Result<String, RowError> {
-    let mut text = String::from_str(alloc, path.as_path().as_internal_file_string())?;
-    text.push('!')?;
+    values: &mut Values,
+) -> Result<(), RowError> {
     for term in terms {
         match term {
-            Some(value) => push_value(alloc, backend, trees, value, &mut text)?,
-            None => text.push('-')?,
+            Some(value) => append_value(alloc, backend, trees, value, values)?,
+            None => values.append(b"-"),
         }
     }
-    Ok(text)
+    Ok(())
 }
 
-// Writes each resolved path, and each conflict with its labels.
+// Writes each resolved path as `path=VALUE`, and each conflict as `path!TERMS` with its labels.
 fn write_merge(
     alloc: Global,
     backend: &MemoryBackend,
@@ -255,11 +268,14 @@ fn write_merge(
     values: &mut Values,
 ) -> Result<(), RowError> {
     for (path, value) in merge.resolved.iter() {
-        values.string(resolved_text(alloc, backend, trees, path, value)?.as_str());
+        values.string(path.as_path().as_internal_file_string());
+        values.append(b"=");
+        append_value(alloc, backend, trees, value, values)?;
     }
     for (path, terms, labels) in merge.conflicts.iter() {
-        let text = conflict_text(alloc, backend, trees, path, terms.as_slice())?;
-        values.string(text.as_str());
+        values.string(path.as_path().as_internal_file_string());
+        values.append(b"!");
+        append_terms(alloc, backend, trees, terms.as_slice(), values)?;
         values.strings(labels.as_slice());
     }
     Ok(())
@@ -304,6 +320,22 @@ fn parse_same_change(name: &str) -> Result<SameChange, RowError> {
     }
 }
 
+fn put_merged(
+    alloc: Global,
+    backend: &MemoryBackend,
+    trees: &[(u8, TreeId)],
+    merged: &BackendResult<TreeMerge>,
+    values: &mut Values,
+) -> Result<(), RowError> {
+    match merged {
+        Ok(merge) => write_merge(alloc, backend, trees, merge, values),
+        Err(error) => {
+            values.word(error_name(error)?);
+            Ok(())
+        }
+    }
+}
+
 // SAME_CHANGE LEVELS ROOTS | .. | LABELS
 fn put_merge(
     alloc: Global,
@@ -312,38 +344,28 @@ fn put_merge(
     trees: &[(u8, TreeId)],
     values: &mut Values,
 ) -> Result<(), RowError> {
-    let fields = request.group(0)?;
-    let same_change = parse_same_change(fields.string(0)?)?;
-    let levels = fields.index(1)?;
-    let labels = labels_of(alloc, request.group(2)?)?;
-    let roots = roots_of(alloc, trees, fields.bytes(2)?)?;
-    match merge_labeled(alloc, backend, &roots, &labels, same_change, levels)? {
-        Ok(merge) => write_merge(alloc, backend, trees, &merge, values),
-        Err(error) => {
-            values.word(error_name(&error)?);
-            Ok(())
-        }
-    }
+    let fields = request.group(0);
+    let same_change = parse_same_change(fields.string(0))?;
+    let labels = labels_of(alloc, request.group(2))?;
+    let roots = roots_of(alloc, trees, fields.bytes(2))?;
+    let levels = fields.index(1);
+    let merged = merge_labeled(alloc, backend, &roots, &labels, same_change, levels)?;
+    put_merged(alloc, backend, trees, &merged, values)
 }
 
 // `tree-merge SAME_CHANGE LEVELS ROOTS | TREE .. | LABELS`: the resolved paths and the conflicts.
 fn tree_merge(alloc: Global, request: &Request, values: &mut Values) -> Result<(), RowError> {
     let mut backend = MemoryBackend::new(alloc)?;
-    let trees = write_trees(alloc, &mut backend, request.group(1)?)?;
+    let trees = write_trees(alloc, &mut backend, request.group(1))?;
     put_merge(alloc, request, &backend, &trees, values)
 }
 
 /// Runs the request of this name. Returns `false` if there is none.
-pub fn call(
-    alloc: Global,
-    name: &str,
-    request: &Request,
-    values: &mut Values,
-) -> Result<bool, RowError> {
+pub fn call(alloc: Global, name: &str, request: &Request, values: &mut Values) -> bool {
     let called = match name {
         "tree-merge" => tree_merge(alloc, request, values),
-        _ => return Ok(false),
+        _ => return false,
     };
-    called?;
-    Ok(true)
+    values.record(called);
+    true
 }

@@ -49,7 +49,7 @@ fn term_of(alloc: Global, term: &str) -> Result<Option<TreeValue>, RowError> {
 fn terms_of(alloc: Global, fields: &Fields) -> Result<MergedTreeValue, RowError> {
     let mut terms = Vec::new(alloc);
     for index in 0..fields.len() {
-        terms.push(term_of(alloc, fields.string(index)?)?)?;
+        terms.push(term_of(alloc, fields.string(index))?)?;
     }
     merge_of(terms)
 }
@@ -66,7 +66,7 @@ fn agree_with_reference(alloc: Global, value: &TreeValue) -> Result<(), RowError
 
 // `tree-value VALUE`: content, and the id of a file's copy history.
 fn value(alloc: Global, request: &Request, values: &mut Values) -> Result<(), RowError> {
-    let value = value_of(alloc, request.group(0)?.string(0)?)?;
+    let value = value_of(alloc, request.group(0).string(0))?;
     put_content(alloc, values, &value);
     values.debug(&value.copy_id());
     agree_with_reference(alloc, &value)
@@ -74,7 +74,7 @@ fn value(alloc: Global, request: &Request, values: &mut Values) -> Result<(), Ro
 
 // `values-kind VALUE ..`: whether a merge is of trees, and whether it is like a file.
 fn kind(alloc: Global, request: &Request, values: &mut Values) -> Result<(), RowError> {
-    let terms = terms_of(alloc, request.group(0)?)?;
+    let terms = terms_of(alloc, request.group(0))?;
     values.flag(terms.is_tree());
     values.flag(terms.is_file_like());
     Ok(())
@@ -83,7 +83,7 @@ fn kind(alloc: Global, request: &Request, values: &mut Values) -> Result<(), Row
 // `values-parts VALUE ..`: the ids of files, whether they are executable, and the ids of their copy
 // histories.
 fn parts(alloc: Global, request: &Request, values: &mut Values) -> Result<(), RowError> {
-    let terms = terms_of(alloc, request.group(0)?)?;
+    let terms = terms_of(alloc, request.group(0))?;
     values.debug(&terms.to_file_merge(alloc)?);
     values.debug(&terms.to_executable_merge(alloc)?);
     values.debug(&terms.to_copy_id_merge(alloc)?);
@@ -100,8 +100,8 @@ pub fn labels_of(alloc: Global, fields: &Fields) -> Result<ConflictLabels, RowEr
 
 // `values-describe VALUE .. | LABEL ..`: the description of the conflict.
 fn describe(alloc: Global, request: &Request, values: &mut Values) -> Result<(), RowError> {
-    let labels = labels_of(alloc, request.group(1)?)?;
-    let terms = terms_of(alloc, request.group(0)?)?;
+    let labels = labels_of(alloc, request.group(1))?;
+    let terms = terms_of(alloc, request.group(0))?;
     values.allocated(terms.describe(alloc, &labels));
     Ok(())
 }
@@ -123,9 +123,9 @@ fn with_id(
 
 // `value-with-id VALUE ID`: the value with this id of a file.
 fn new_id(alloc: Global, request: &Request, values: &mut Values) -> Result<(), RowError> {
-    let fields = request.group(0)?;
-    let id = parse_id(alloc, fields.string(1)?)?;
-    let value = term_of(alloc, fields.string(0)?)?;
+    let fields = request.group(0);
+    let id = parse_id(alloc, fields.string(1))?;
+    let value = term_of(alloc, fields.string(0))?;
     put_content(alloc, values, &with_id(alloc, value, id)?);
     Ok(())
 }
@@ -140,7 +140,7 @@ fn entry_of(alloc: Global, entry: &str) -> Result<(RepoPathComponentBuf, TreeVal
 pub fn tree_of(alloc: Global, fields: &Fields) -> Result<Tree, RowError> {
     let mut entries = Vec::new(alloc);
     for index in 0..fields.len() {
-        entries.push(entry_of(alloc, fields.string(index)?)?)?;
+        entries.push(entry_of(alloc, fields.string(index))?)?;
     }
     tree_of_entries(entries)
 }
@@ -159,7 +159,7 @@ fn put_entries(alloc: Global, tree: &Tree, values: &mut Values) {
 // `tree-entries ENTRY ..`: content, whether it is empty, names, and entries with the content of
 // each.
 fn tree(alloc: Global, request: &Request, values: &mut Values) -> Result<(), RowError> {
-    let tree = tree_of(alloc, request.group(0)?)?;
+    let tree = tree_of(alloc, request.group(0))?;
     put_content(alloc, values, &tree);
     put_entries(alloc, &tree, values);
     agree(tree.clone()? == tree, "clone of a tree")
@@ -174,8 +174,8 @@ fn put_value(alloc: Global, value: Option<&TreeValue>, values: &mut Values) {
 
 // `tree-find NAME | ENTRY ..`: the content of the value at a name, also by the entry.
 fn find(alloc: Global, request: &Request, values: &mut Values) -> Result<(), RowError> {
-    let name = name_of(alloc, request.group(0)?.string(0)?)?;
-    let tree = tree_of(alloc, request.group(1)?)?;
+    let name = name_of(alloc, request.group(0).string(0))?;
+    let tree = tree_of(alloc, request.group(1))?;
     put_value(alloc, tree.value(name.as_component()), values);
     match tree.entry(name.as_component()) {
         None => values.word("none"),
@@ -185,12 +185,7 @@ fn find(alloc: Global, request: &Request, values: &mut Values) -> Result<(), Row
 }
 
 /// Runs the request of this name. Returns `false` if this module has no such request.
-pub fn call(
-    alloc: Global,
-    name: &str,
-    request: &Request,
-    values: &mut Values,
-) -> Result<bool, RowError> {
+pub fn call(alloc: Global, name: &str, request: &Request, values: &mut Values) -> bool {
     let called = match name {
         "tree-value" => value(alloc, request, values),
         "values-kind" => kind(alloc, request, values),
@@ -199,8 +194,8 @@ pub fn call(
         "value-with-id" => new_id(alloc, request, values),
         "tree-entries" => tree(alloc, request, values),
         "tree-find" => find(alloc, request, values),
-        _ => return Ok(false),
+        _ => return false,
     };
-    called?;
-    Ok(true)
+    values.record(called);
+    true
 }

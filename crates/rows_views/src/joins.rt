@@ -74,18 +74,13 @@ fn remote_bookmarks(alloc: Global, request: &Request, values: &mut Values) -> Re
 }
 
 /// Runs the request of this name. Returns `false` if this module has no such request.
-pub fn call(
-    alloc: Global,
-    name: &str,
-    request: &Request,
-    values: &mut Values,
-) -> Result<bool, RowError> {
+pub fn call(alloc: Global, name: &str, request: &Request, values: &mut Values) -> bool {
     let called = match name {
         "view-bookmarks" => bookmarks(alloc, request, values),
         "view-tags" => tags(alloc, request, values),
         "view-remote-bookmarks" => remote_bookmarks(alloc, request, values),
-        _ => return Ok(false),
+        _ => return false,
     };
-    called?;
-    Ok(true)
+    values.record(called);
+    true
 }

@@ -9,22 +9,14 @@ mod signers;
 mod views;
 
 use rows::request::Request;
-use rows::row_error::RowError;
 use rows::values::Values;
 use std::alloc::Global;
 
 /// Runs the request of this name. Returns `false` if this crate has no such request.
-pub fn call(
-    alloc: Global,
-    name: &str,
-    request: &Request,
-    values: &mut Values,
-) -> Result<bool, RowError> {
-    Ok(
-        refs::call(alloc, name, request, values)?
-            || views::call(alloc, name, request, values)?
-            || joins::call(alloc, name, request, values)?
-            || operations::call(alloc, name, request, values)?
-            || signers::call(alloc, name, request, values)?,
-    )
+pub fn call(alloc: Global, name: &str, request: &Request, values: &mut Values) -> bool {
+    refs::call(alloc, name, request, values)
+        || views::call(alloc, name, request, values)
+        || joins::call(alloc, name, request, values)
+        || operations::call(alloc, name, request, values)
+        || signers::call(alloc, name, request, values)
 }

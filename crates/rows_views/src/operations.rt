@@ -5,35 +5,30 @@ use jj_stores::op_store::{Operation, OperationMetadata, TimestampRange};
 use rows::request::{Fields, Request};
 use rows::row_error::{RowError, agree};
 use rows::values::Values;
-use rows_records::arguments::{id, ids, owned, parse_id, time};
+use rows_records::arguments::{id, ids, parse_id, time};
 use rows_records::recorded::put_record;
-use std::alloc::Global;
+use std::alloc::{AllocError, Global};
 use std::collections::BTreeMap;
 
-fn range_of(fields: &Fields) -> Result<TimestampRange, RowError> {
-    let start = time(fields, 0)?;
-    Ok(TimestampRange {
-        start,
-        end: time(fields, 2)?,
-    })
+fn range_of(fields: &Fields) -> TimestampRange {
+    TimestampRange {
+        start: time(fields, 0),
+        end: time(fields, 2),
+    }
 }
 
 // `time-range MILLIS OFFSET MILLIS OFFSET`: content, JSON
 fn range(alloc: Global, request: &Request, values: &mut Values) -> Result<(), RowError> {
-    put_record(alloc, values, &range_of(request.group(0)?)?);
+    put_record(alloc, values, &range_of(request.group(0)));
     Ok(())
 }
 
 // DESCRIPTION HOST USER IS_SNAPSHOT
-fn set_strings(
-    alloc: Global,
-    fields: &Fields,
-    metadata: &mut OperationMetadata,
-) -> Result<(), RowError> {
-    metadata.description = owned(alloc, fields, 0)?;
-    metadata.hostname = owned(alloc, fields, 1)?;
-    metadata.username = owned(alloc, fields, 2)?;
-    metadata.is_snapshot = fields.flag(3)?;
+fn set_strings(fields: &Fields, metadata: &mut OperationMetadata) -> Result<(), AllocError> {
+    metadata.description = fields.owned(0)?;
+    metadata.hostname = fields.owned(1)?;
+    metadata.username = fields.owned(2)?;
+    metadata.is_snapshot = fields.flag(3);
     Ok(())
 }
 
@@ -44,8 +39,19 @@ fn set_workspace(
     metadata: &mut OperationMetadata,
 ) -> Result<(), RowError> {
     if !fields.is_empty() {
-        metadata.workspace_name = Some(WorkspaceNameBuf::from_text(alloc, fields.string(0)?)?);
+        metadata.workspace_name = Some(WorkspaceNameBuf::from_text(alloc, fields.string(0))?);
     }
+    Ok(())
+}
+
+fn add_attribute(
+    alloc: Global,
+    field: &str,
+    attributes: &mut BTreeMap<String, String>,
+) -> Result<(), AllocError> {
+    let (name, value) = field.split_once('=').unwrap_or(("", ""));
+    let name = String::from_str(alloc, name)?;
+    attributes.insert(name, String::from_str(alloc, value)?)?;
     Ok(())
 }
 
@@ -54,36 +60,41 @@ fn add_attributes(
     alloc: Global,
     fields: &Fields,
     attributes: &mut BTreeMap<String, String>,
-) -> Result<(), RowError> {
+) -> Result<(), AllocError> {
     for index in 0..fields.len() {
-        let (name, value) = fields.string(index)?.split_once('=').unwrap_or(("", ""));
-        let name = String::from_str(alloc, name)?;
-        attributes.insert(name, String::from_str(alloc, value)?)?;
+        add_attribute(alloc, fields.string(index), attributes)?;
     }
     Ok(())
 }
 
+// COMMIT .., with a space between them
+fn commits_of(alloc: Global, list: &str) -> Result<Vec<CommitId>, RowError> {
+    let mut commits = Vec::new(alloc);
+    if !list.is_empty() {
+        for part in list.split(' ') {
+            commits.push(parse_id(alloc, part)?)?;
+        }
+    }
+    Ok(commits)
+}
+
 // COMMIT PREDECESSOR .., with a space between them
 fn predecessors_of(alloc: Global, field: &str) -> Result<(CommitId, Vec<CommitId>), RowError> {
-    let mut parts = field.split(' ');
-    let commit = parse_id(alloc, parts.next().unwrap_or(""))?;
-    let mut predecessors = Vec::new(alloc);
-    for part in parts {
-        predecessors.push(parse_id(alloc, part)?)?;
-    }
-    Ok((commit, predecessors))
+    let (commit, rest) = field.split_once(' ').unwrap_or((field, ""));
+    let commit = parse_id(alloc, commit)?;
+    Ok((commit, commits_of(alloc, rest)?))
 }
 
 type Predecessors = BTreeMap<CommitId, Vec<CommitId>>;
 
 // `unknown`, or `known` and predecessors of commits
 fn all_predecessors_of(alloc: Global, fields: &Fields) -> Result<Option<Predecessors>, RowError> {
-    if fields.string(0)? == "unknown" {
+    if fields.string(0) == "unknown" {
         return Ok(None);
     }
     let mut all = BTreeMap::new(alloc);
     for index in 1..fields.len() {
-        let (commit, predecessors) = predecessors_of(alloc, fields.string(index)?)?;
+        let (commit, predecessors) = predecessors_of(alloc, fields.string(index))?;
         all.insert(commit, predecessors)?;
     }
     Ok(Some(all))
@@ -94,23 +105,24 @@ fn set_metadata(
     request: &Request,
     metadata: &mut OperationMetadata,
 ) -> Result<(), RowError> {
-    metadata.time = range_of(request.group(2)?)?;
-    set_strings(alloc, request.group(3)?, metadata)?;
-    set_workspace(alloc, request.group(4)?, metadata)?;
-    add_attributes(alloc, request.group(5)?, &mut metadata.attributes)
+    metadata.time = range_of(request.group(2));
+    set_strings(request.group(3), metadata)?;
+    set_workspace(alloc, request.group(4), metadata)?;
+    add_attributes(alloc, request.group(5), &mut metadata.attributes)?;
+    Ok(())
 }
 
 fn root_of(alloc: Global, request: &Request) -> Result<Operation, RowError> {
-    Ok(Operation::make_root(alloc, id(alloc, request.group(0)?, 0)?))
+    Ok(Operation::make_root(alloc, id(alloc, request.group(0), 0)?))
 }
 
 // VIEW | PARENT .. | RANGE | DESCRIPTION HOST USER IS_SNAPSHOT | WORKSPACE | NAME=VALUE .. |
 // PREDECESSORS
 fn operation_of(alloc: Global, request: &Request) -> Result<Operation, RowError> {
     let mut operation = root_of(alloc, request)?;
-    operation.parents = ids(alloc, request.group(1)?)?;
+    operation.parents = ids(alloc, request.group(1))?;
     set_metadata(alloc, request, &mut operation.metadata)?;
-    operation.commit_predecessors = all_predecessors_of(alloc, request.group(6)?)?;
+    operation.commit_predecessors = all_predecessors_of(alloc, request.group(6))?;
     Ok(operation)
 }
 
@@ -147,20 +159,15 @@ fn is_root(alloc: Global, request: &Request, values: &mut Values) -> Result<(), 
 }
 
 /// Runs the request of this name. Returns `false` if this module has no such request.
-pub fn call(
-    alloc: Global,
-    name: &str,
-    request: &Request,
-    values: &mut Values,
-) -> Result<bool, RowError> {
+pub fn call(alloc: Global, name: &str, request: &Request, values: &mut Values) -> bool {
     let called = match name {
         "time-range" => range(alloc, request, values),
         "root-operation" => root(alloc, request, values),
         "operation" => operation(alloc, request, values),
         "operation-metadata" => metadata(alloc, request, values),
         "operation-is-root" => is_root(alloc, request, values),
-        _ => return Ok(false),
+        _ => return false,
     };
-    called?;
-    Ok(true)
+    values.record(called);
+    true
 }

@@ -39,7 +39,7 @@ pub fn remote_ref_of(alloc: Global, state: &str, target: &str) -> Result<RemoteR
 
 // `ref-target TARGET`: content, JSON, whether it is absent, and its only commit.
 fn target(alloc: Global, request: &Request, values: &mut Values) -> Result<(), RowError> {
-    let target = target_of(alloc, request.group(0)?.string(0)?)?;
+    let target = target_of(alloc, request.group(0).string(0))?;
     put_record(alloc, values, &target);
     values.flag(target.is_absent());
     values.debug(&target.as_normal());
@@ -57,8 +57,8 @@ fn put_remote_ref(alloc: Global, remote: &RemoteRef, values: &mut Values) {
 // `remote-ref STATE TARGET`: content, whether it is absent, present and tracked, and the target if
 // it is tracked.
 fn remote_ref(alloc: Global, request: &Request, values: &mut Values) -> Result<(), RowError> {
-    let fields = request.group(0)?;
-    let remote = remote_ref_of(alloc, fields.string(0)?, fields.string(1)?)?;
+    let fields = request.group(0);
+    let remote = remote_ref_of(alloc, fields.string(0), fields.string(1))?;
     put_remote_ref(alloc, &remote, values);
     agree(remote.clone(alloc)? == remote, "clone of a remote ref")
 }
@@ -71,11 +71,11 @@ fn absent(alloc: Global, values: &mut Values) -> Result<(), RowError> {
 
 // `ref-flatten TARGET` or `ref-flatten`: an optional target without the option.
 fn flatten(alloc: Global, request: &Request, values: &mut Values) -> Result<(), RowError> {
-    let fields = request.group(0)?;
+    let fields = request.group(0);
     let target = if fields.is_empty() {
         None
     } else {
-        Some(target_of(alloc, fields.string(0)?)?)
+        Some(target_of(alloc, fields.string(0))?)
     };
     values.debug(&RefTargetOptionExt::flatten(target.as_ref(), alloc));
     values.debug(&RefTargetOptionExt::flatten(target, alloc));
@@ -86,32 +86,27 @@ fn optional_ref_of(alloc: Global, fields: &Fields) -> Result<Option<RemoteRef>, 
     if fields.is_empty() {
         return Ok(None);
     }
-    Ok(Some(remote_ref_of(alloc, fields.string(0)?, fields.string(1)?)?))
+    Ok(Some(remote_ref_of(alloc, fields.string(0), fields.string(1))?))
 }
 
 // `remote-ref-flatten STATE TARGET` or `remote-ref-flatten`: the same of a ref at a remote.
 fn flatten_remote(alloc: Global, request: &Request, values: &mut Values) -> Result<(), RowError> {
-    let remote = optional_ref_of(alloc, request.group(0)?)?;
+    let remote = optional_ref_of(alloc, request.group(0))?;
     values.debug(&RefTargetOptionExt::flatten(remote.as_ref(), alloc));
     values.debug(&RefTargetOptionExt::flatten(remote, alloc));
     Ok(())
 }
 
 /// Runs the request of this name. Returns `false` if this module has no such request.
-pub fn call(
-    alloc: Global,
-    name: &str,
-    request: &Request,
-    values: &mut Values,
-) -> Result<bool, RowError> {
+pub fn call(alloc: Global, name: &str, request: &Request, values: &mut Values) -> bool {
     let called = match name {
         "ref-target" => target(alloc, request, values),
         "remote-ref" => remote_ref(alloc, request, values),
         "remote-ref-absent" => absent(alloc, values),
         "ref-flatten" => flatten(alloc, request, values),
         "remote-ref-flatten" => flatten_remote(alloc, request, values),
-        _ => return Ok(false),
+        _ => return false,
     };
-    called?;
-    Ok(true)
+    values.record(called);
+    true
 }

@@ -110,9 +110,21 @@ fn put_verification(found: SignResult<Verification>, values: &mut Values) -> Res
 fn commits_of(alloc: Global, fields: &Fields) -> Result<Vec<CommitId>, RowError> {
     let mut commits = Vec::new(alloc);
     for index in 0..fields.len() {
-        commits.push(CommitId::from_bytes(alloc, fields.bytes(index)?)?)?;
+        commits.push(CommitId::from_bytes(alloc, fields.bytes(index))?)?;
     }
     Ok(commits)
+}
+
+fn verify_each(
+    alloc: Global,
+    signer: &mut Signer,
+    commits: &Fields,
+    values: &mut Values,
+) -> Result<(), RowError> {
+    for commit in &commits_of(alloc, commits)? {
+        put_verification(signer.verify(commit, b"data", b"signature"), values)?;
+    }
+    Ok(())
 }
 
 // CAPACITY | MAIN OTHER .. | COMMIT ..
@@ -122,24 +134,20 @@ fn verify_all(
     counters: &mut Vec<Counter>,
     values: &mut Values,
 ) -> Result<(), RowError> {
-    let Some(capacity) = NonZeroUsize::new(request.group(0)?.index(0)?) else {
+    let Some(capacity) = NonZeroUsize::new(request.group(0).index(0)) else {
         return Err(RowError::Precondition("a capacity"));
     };
-    let backends = request.group(1)?;
-    let commits = commits_of(alloc, request.group(2)?)?;
-    let main = backend_of(alloc, backends.string(0)?, counters)?;
+    let backends = request.group(1);
+    let main = backend_of(alloc, backends.string(0), counters)?;
     let main: Box<dyn SigningBackend> = Box::new(alloc, main)?;
     let mut others = Vec::new(alloc);
     for index in 1..backends.len() {
-        let other = backend_of(alloc, backends.string(index)?, counters)?;
+        let other = backend_of(alloc, backends.string(index), counters)?;
         let other: Box<dyn SigningBackend> = Box::new(alloc, other)?;
         others.push(other)?;
     }
     let mut signer = Signer::with_capacity(alloc, Some(main), others, capacity)?;
-    for commit in &commits {
-        put_verification(signer.verify(commit, b"data", b"signature"), values)?;
-    }
-    Ok(())
+    verify_each(alloc, &mut signer, request.group(2), values)
 }
 
 // `signer CAPACITY | MAIN OTHER .. | COMMIT ..`: the status or the error of each verification, and
@@ -153,24 +161,12 @@ fn signer(alloc: Global, request: &Request, values: &mut Values) -> Result<(), R
     Ok(())
 }
 
-// `signer-sign MAIN DATA` or `signer-sign MAIN DATA KEY`: the signature of the main backend, and
-// an unmet precondition if MAIN is `none`.
-fn sign(alloc: Global, request: &Request, values: &mut Values) -> Result<(), RowError> {
-    let fields = request.group(0)?;
-    let data = fields.bytes(1)?;
-    let key = if fields.len() > 2 {
-        Some(fields.string(2)?)
-    } else {
-        None
-    };
-    let main: Option<Box<dyn SigningBackend>> = if fields.string(0)? == "none" {
-        None
-    } else {
-        let backend = backend_of(alloc, fields.string(0)?, &mut Vec::new(alloc))?;
-        let backend: Box<dyn SigningBackend> = Box::new(alloc, backend)?;
-        Some(backend)
-    };
-    let signer = Signer::new(alloc, main, Vec::new(alloc))?;
+fn put_signature(
+    signer: &Signer,
+    data: &[u8],
+    key: Option<&str>,
+    values: &mut Values,
+) -> Result<(), RowError> {
     needs(signer.can_sign(), "a main backend")?;
     match signer.sign(data, key) {
         Ok(signature) => values.bytes(&signature),
@@ -180,18 +176,34 @@ fn sign(alloc: Global, request: &Request, values: &mut Values) -> Result<(), Row
     Ok(())
 }
 
+// `signer-sign MAIN DATA` or `signer-sign MAIN DATA KEY`: the signature of the main backend, and
+// an unmet precondition if MAIN is `none`.
+fn sign(alloc: Global, request: &Request, values: &mut Values) -> Result<(), RowError> {
+    let fields = request.group(0);
+    let data = fields.bytes(1);
+    let key = if fields.len() > 2 {
+        Some(fields.string(2))
+    } else {
+        None
+    };
+    let main: Option<Box<dyn SigningBackend>> = if fields.string(0) == "none" {
+        None
+    } else {
+        let backend = backend_of(alloc, fields.string(0), &mut Vec::new(alloc))?;
+        let backend: Box<dyn SigningBackend> = Box::new(alloc, backend)?;
+        Some(backend)
+    };
+    let signer = Signer::new(alloc, main, Vec::new(alloc))?;
+    put_signature(&signer, data, key, values)
+}
+
 /// Runs the request of this name. Returns `false` if this module has no such request.
-pub fn call(
-    alloc: Global,
-    name: &str,
-    request: &Request,
-    values: &mut Values,
-) -> Result<bool, RowError> {
+pub fn call(alloc: Global, name: &str, request: &Request, values: &mut Values) -> bool {
     let called = match name {
         "signer" => signer(alloc, request, values),
         "signer-sign" => sign(alloc, request, values),
-        _ => return Ok(false),
+        _ => return false,
     };
-    called?;
-    Ok(true)
+    values.record(called);
+    true
 }

@@ -18,8 +18,8 @@ fn put_target<K>(
     fields: &Fields,
     targets: &mut BTreeMap<NameBuf<K>, RefTarget>,
 ) -> Result<(), RowError> {
-    let target = target_of(alloc, fields.string(2)?)?;
-    let name = NameBuf::from_text(alloc, fields.string(1)?)?;
+    let target = target_of(alloc, fields.string(2))?;
+    let name = NameBuf::from_text(alloc, fields.string(1))?;
     targets.insert(name, target)?;
     Ok(())
 }
@@ -50,14 +50,14 @@ fn add_ref(alloc: Global, field: &str, remote: &mut RemoteView) -> Result<(), Ro
 fn remote_of(alloc: Global, fields: &Fields, start: usize) -> Result<RemoteView, RowError> {
     let mut remote = RemoteView::default(alloc);
     for index in start..fields.len() {
-        add_ref(alloc, fields.string(index)?, &mut remote)?;
+        add_ref(alloc, fields.string(index), &mut remote)?;
     }
     Ok(remote)
 }
 
 fn add_remote(alloc: Global, fields: &Fields, view: &mut View) -> Result<(), RowError> {
     let remote = remote_of(alloc, fields, 2)?;
-    let name = NameBuf::from_text(alloc, fields.string(1)?)?;
+    let name = NameBuf::from_text(alloc, fields.string(1))?;
     view.remote_views.insert(name, remote)?;
     Ok(())
 }
@@ -69,13 +69,13 @@ fn add_head(alloc: Global, fields: &Fields, view: &mut View) -> Result<(), RowEr
 
 fn add_working_copy(alloc: Global, fields: &Fields, view: &mut View) -> Result<(), RowError> {
     let commit = id(alloc, fields, 2)?;
-    let name = NameBuf::from_text(alloc, fields.string(1)?)?;
+    let name = NameBuf::from_text(alloc, fields.string(1))?;
     view.wc_commit_ids.insert(name, commit)?;
     Ok(())
 }
 
 fn add_part(alloc: Global, fields: &Fields, view: &mut View) -> Result<(), RowError> {
-    match fields.string(0)? {
+    match fields.string(0) {
         "head" => add_head(alloc, fields, view),
         "bookmark" => put_target(alloc, fields, &mut view.local_bookmarks),
         "tag" => put_target(alloc, fields, &mut view.local_tags),
@@ -88,7 +88,7 @@ fn add_part(alloc: Global, fields: &Fields, view: &mut View) -> Result<(), RowEr
 }
 
 fn root_of(alloc: Global, request: &Request) -> Result<View, RowError> {
-    Ok(View::make_root(alloc, id(alloc, request.group(0)?, 0)?)?)
+    Ok(View::make_root(alloc, id(alloc, request.group(0), 0)?)?)
 }
 
 /// Parses a view: the commit of its root view, and its parts.
@@ -121,25 +121,20 @@ fn is_root(alloc: Global, request: &Request, values: &mut Values) -> Result<(), 
 
 // `remote-view REF ..`: content of the view of a remote.
 fn remote_view(alloc: Global, request: &Request, values: &mut Values) -> Result<(), RowError> {
-    let remote = remote_of(alloc, request.group(0)?, 0)?;
+    let remote = remote_of(alloc, request.group(0), 0)?;
     put_content(alloc, values, &remote);
     let clone = remote.clone(alloc)?;
     agree(clone == remote, "clone of the view of a remote")
 }
 
 /// Runs the request of this name. Returns `false` if this module has no such request.
-pub fn call(
-    alloc: Global,
-    name: &str,
-    request: &Request,
-    values: &mut Values,
-) -> Result<bool, RowError> {
+pub fn call(alloc: Global, name: &str, request: &Request, values: &mut Values) -> bool {
     let called = match name {
         "view" => view(alloc, request, values),
         "view-is-root" => is_root(alloc, request, values),
         "remote-view" => remote_view(alloc, request, values),
-        _ => return Ok(false),
+        _ => return false,
     };
-    called?;
-    Ok(true)
+    values.record(called);
+    true
 }

@@ -75,8 +75,8 @@ fn grouped_order(
 }
 
 fn grouped(alloc: Global, request: &Request, values: &mut Values) -> Result<(), RowError> {
-    let fields = request.group(0)?;
-    let (order, end) = grouped_order(alloc, fields.string(1)?, fields.string(0)?)?;
+    let fields = request.group(0);
+    let (order, end) = grouped_order(alloc, fields.string(1), fields.string(0))?;
     put_nodes(alloc, values, &order);
     match &end {
         None => {}
@@ -125,7 +125,7 @@ fn reversed_of(alloc: Global, graph: &str) -> Result<String, WalkError<char>> {
 }
 
 fn reversed(alloc: Global, request: &Request, values: &mut Values) -> Result<(), RowError> {
-    match reversed_of(alloc, request.group(0)?.string(0)?) {
+    match reversed_of(alloc, request.group(0).string(0)) {
         Ok(string) => values.string(string.as_str()),
         Err(WalkError::Node(error)) => put_error(values, error),
         Err(WalkError::Memory) => return Err(RowError::Memory),
@@ -134,17 +134,12 @@ fn reversed(alloc: Global, request: &Request, values: &mut Values) -> Result<(),
 }
 
 /// Runs the request of this name, if it is one of this module.
-pub fn call(
-    alloc: Global,
-    name: &str,
-    request: &Request,
-    values: &mut Values,
-) -> Result<bool, RowError> {
+pub fn call(alloc: Global, name: &str, request: &Request, values: &mut Values) -> bool {
     let called = match name {
         "grouped" => grouped(alloc, request, values),
         "reverse-graph" => reversed(alloc, request, values),
-        _ => return Ok(false),
+        _ => return false,
     };
-    called?;
-    Ok(true)
+    values.record(called);
+    true
 }

@@ -11,22 +11,12 @@ mod lazy;
 mod orders;
 
 use rows::request::Request;
-use rows::row_error::RowError;
 use rows::values::Values;
 use std::alloc::Global;
 
 /// Runs the request of this name. Returns `false` if this crate has no such request.
-pub fn call(
-    alloc: Global,
-    name: &str,
-    request: &Request,
-    values: &mut Values,
-) -> Result<bool, RowError> {
-    if orders::call(alloc, name, request, values)? {
-        return Ok(true);
-    }
-    if lazy::call(alloc, name, request, values)? {
-        return Ok(true);
-    }
-    grouped::call(alloc, name, request, values)
+pub fn call(alloc: Global, name: &str, request: &Request, values: &mut Values) -> bool {
+    orders::call(alloc, name, request, values)
+        || lazy::call(alloc, name, request, values)
+        || grouped::call(alloc, name, request, values)
 }

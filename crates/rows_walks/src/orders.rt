@@ -113,8 +113,8 @@ fn call_plain(
     request: &Request,
     values: &mut Values,
 ) -> Result<(), RowError> {
-    let fields = request.group(0)?;
-    let (start, graph) = (fields.string(0)?, fields.string(1)?);
+    let fields = request.group(0);
+    let (start, graph) = (fields.string(0), fields.string(1));
     match name {
         "dfs" => put_order(alloc, values, Ok(preorder(alloc, graph, start)?)),
         "forward" => put_order(alloc, values, forward(alloc, graph, start)),
@@ -138,9 +138,9 @@ fn call_failing(
     request: &Request,
     values: &mut Values,
 ) -> Result<(), RowError> {
-    let fields = request.group(0)?;
-    let start = items_of(alloc, fields.string(0)?)?;
-    let graph = FailingGraph::parse(alloc, fields.string(1)?)?;
+    let fields = request.group(0);
+    let start = items_of(alloc, fields.string(0))?;
+    let graph = FailingGraph::parse(alloc, fields.string(1))?;
     match name {
         "dfs-ok" => put_order(
             alloc,
@@ -159,23 +159,13 @@ fn call_failing(
 }
 
 fn call_closest(alloc: Global, request: &Request, values: &mut Values) -> Result<(), RowError> {
-    let fields = request.group(0)?;
-    let nodes = closest(
-        alloc,
-        fields.string(2)?,
-        fields.string(0)?,
-        fields.string(1)?,
-    );
+    let fields = request.group(0);
+    let nodes = closest(alloc, fields.string(2), fields.string(0), fields.string(1));
     put_sorted(alloc, values, nodes)
 }
 
 /// Runs the request of this name, if it is one of this module.
-pub fn call(
-    alloc: Global,
-    name: &str,
-    request: &Request,
-    values: &mut Values,
-) -> Result<bool, RowError> {
+pub fn call(alloc: Global, name: &str, request: &Request, values: &mut Values) -> bool {
     let called = match name {
         "dfs" | "forward" | "reverse" | "heads" | "heads-lists" => {
             call_plain(alloc, name, request, values)
@@ -184,8 +174,8 @@ pub fn call(
             call_failing(alloc, name, request, values)
         }
         "closest-common" => call_closest(alloc, request, values),
-        _ => return Ok(false),
+        _ => return false,
     };
-    called?;
-    Ok(true)
+    values.record(called);
+    true
 }
