@@ -23,7 +23,7 @@ module _ {X Y : Type 0} (f : X → Y) where
       let items = flat_map-map content xs in
       λ i. u64_content (long i) ++ items i
 
--- the length is below 2 ^ 64, and P holds for each item
+-- the length is below 2 ^ 64, and each item satisfies P
 pub are_values-map : {X Y : Type 0} (f : X → Y) (P : Y → Type 0) (xs : List X) → AreValues (λ x. P (f x)) xs → AreValues P (map f xs)
 are_values-map f P xs values =
     let short : length (map f xs) < 2 ^ 64 = rw (length-map xs f) values.0 in

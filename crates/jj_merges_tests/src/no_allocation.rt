@@ -72,7 +72,7 @@ fn long_merges(rt: HostRuntime) {
     assert_outcome(&rt, &terms, SameChange::Keep, Some(1000));
 }
 
-// The numbers from 0 on, each twice, and 1000 once.
+// The numbers 0, 1, 2, .., each twice, and 1000 once.
 fn doubled() -> [u32; 2001] {
     let mut terms = [0u32; 2001];
     let mut number = 0u32;

@@ -260,7 +260,7 @@ pub record Passes (trees left : List Entries) (rows : List (Name × List (Option
   pub above : All (λ row. Each (IsBelow row.0) left) rows
   pub every : (name : Name) → (at_name trees name ≡ at_name left name) ⊎ Any (λ row. row.0 ≡ name) rows
 
--- the invariant holds before the loop
+-- the invariant before the loop
 pub nothing_passed : (trees : List Entries) → Each IsSorted trees → Passes trees trees []
 nothing_passed trees sorted = record {
   ascending = λ i j d lt within. absurd (omega arith);

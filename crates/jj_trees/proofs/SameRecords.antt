@@ -20,7 +20,7 @@ use Rattle.jj_backend.specs.declared.backend.tree_value.TreeValue.{TreeValue}
 use Rattle.jj_backend.specs.contracts.backend.tree_value.TreeValuePartialEq.TheImpl as tree_values
 use Rattle.jj_trees.proofs.Merging.{same_value}
 
--- an equivalence that holds only of identical values decides identity
+-- an equivalence that relates only identical values decides identity
 decides : {X : Type 0} (eq : X → X → Bool) → IsEquivalence eq → ((x y : X) → eq x y ≡ true → x ≡ y) → (x y : X) → Decides (eq x y) (x ≡ y)
 decides eq equiv same x y = (same x y, λ e. subst (λ z. eq x z ≡ true) e (equiv.refl x))
 
