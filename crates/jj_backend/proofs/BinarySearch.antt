@@ -4,15 +4,15 @@ use Rattle.std.specs.declared.cmp.Ordering.{Ordering}
 use Rattle.std.specs.declared.cmp.Ordering.TheVariants.{Less, Equal, Greater}
 use Rattle.std.specs.Ordering.{ordering_index}
 use Rattle.std.specs.FinMap.{is_sorted}
-use Rattle.std.specs.FinMap.Entries.{below_all}
 use Rattle.std.specs.List.Sorted.{IsBinarySearchResult, IsSearchInRange, IsNonDecreasingBy}
 use Rattle.std.specs.Str.{bytes_eq}
 use Rattle.std.proofs.lemmas.Bool.{and_parts, cases_lt}
 use Rattle.std.proofs.lemmas.Slice.Eq.{bytes_eq-Decides}
 use Rattle.jj_paths.specs.Paths.{Name, name_cmp}
-use Rattle.jj_paths.proofs.PathOrders.{name_cmp-same, name_cmp-itself, less_from_is_lt, rises}
+use Rattle.jj_paths.proofs.PathOrders.{name_cmp-same, name_cmp-itself, rises}
 use Rattle.jj_backend.specs.Trees.{Entries, value_at, IsEntryAt}
 use Rattle.jj_backend.specs.declared.backend.tree_value.TreeValue.{TreeValue}
+use Rattle.jj_backend.proofs.SortedEntries.{below_all-at}
 
 differs : (x name : Name) (r : Ordering) → name_cmp x name ≡ r → (r ≡ Equal → ⊥) → bytes_eq name x ≡ false
 differs x name r is unequal = by_cases (bytes_eq name x) refl
@@ -26,11 +26,6 @@ less_is_unequal r less equal = let both : Less ≡ Equal = sym less ∙ equal in
 
 greater_is_unequal : (r : Ordering) → r ≡ Greater → r ≡ Equal → ⊥
 greater_is_unequal r greater equal = let both : Greater ≡ Equal = sym greater ∙ equal in cc
-
-below_all-at : (x : Name) (es : Entries) (j : ℕ) (d : Name × TreeValue) → below_all name_cmp x es ≡ true → j < length es → name_cmp x (get_or es j d).0 ≡ Less
-below_all-at x [] j d all lt = absurd (omega arith)
-below_all-at x (e ∷ es) zero d all lt = less_from_is_lt _ (and_parts _ _ all).0
-below_all-at x (e ∷ es) (suc j) d all lt = below_all-at x es j d (and_parts _ _ all).1 (omega arith)
 
 comparisons_rise : (q : Name) (es : Entries) → is_sorted name_cmp es ≡ true → IsNonDecreasingBy (λ e. ordering_index (name_cmp e.0 q)) es
 comparisons_rise q [] sorted i j d le lt = absurd (omega arith)

@@ -1,3 +1,4 @@
 pub mod MergedParts
 pub mod MergedTreeValues
 pub mod BinarySearch
+pub mod SortedEntries

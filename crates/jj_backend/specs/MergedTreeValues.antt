@@ -1,7 +1,7 @@
 -- Merges of the tree values at one path: their classes, the fields of files, new file ids, and
 -- descriptions of conflicts.
 -- Cited by contracts of public items: CanTakeId, Values, are_file_like, are_trees, description,
--- executable_of, file_id_of, parts, with_file_ids.
+-- executable_of, file_id_of, is_tree_or_absent, parts, with_file_ids.
 use Rattle.std.specs.Prelude.{ℕ, Bool, true, false, not, List, [], ◌∷◌, ◌++◌, Option, Some, None, ⊤, codes}
 use Rattle.std.specs.List.{list_all}
 use Rattle.std.specs.Option.{option_map, option_and_then}

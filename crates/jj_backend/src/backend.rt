@@ -21,7 +21,8 @@ pub use errors::{BackendError, BackendInitError, BackendLoadError, BackendResult
 pub use interface::{Backend, NoSigner, SigningFn};
 pub use jj_ids::object_id::{ChangeId, CommitId, CopyId, FileId, SymlinkId, TreeId};
 pub use merged_tree_value::{
-    AsTreeValue, MergedTreeVal, MergedTreeValue, MergedTreeValueExt, borrow_tree_value,
+    AsTreeValue, MergedTreeVal, MergedTreeValue, MergedTreeValueExt, are_trees_or_absent,
+    borrow_tree_value,
 };
 pub use signature::{SecureSig, Signature};
 pub use timestamp::{MillisSinceEpoch, Timestamp, TimestampOutOfRange};

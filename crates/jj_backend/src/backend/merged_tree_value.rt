@@ -78,7 +78,8 @@ fn is_tree_or_absent<T: AsTreeValue>(term: &Option<T>) -> bool
     }
 }
 
-fn are_trees_or_absent<T: AsTreeValue>(terms: &[Option<T>]) -> bool
+/// Returns whether all present terms are trees.
+pub fn are_trees_or_absent<T: AsTreeValue>(terms: &[Option<T>]) -> bool
     ensures { result ≡ list_all is_tree_or_absent (map (option_map T.value_of) terms.now) }
 {
     for term in terms {

@@ -3,6 +3,7 @@ ghost use Rattle.std.specs.Prelude.{◌≡◌, ◌↔◌, [], map, IsTrue, IfSom
 ghost use Rattle.std.specs.FinMap.{is_sorted};
 ghost use Rattle.std.specs.Iterator.{YieldsFirstBy, item_count};
 ghost use Rattle.std.specs.Option.{option_copied, option_map};
+ghost use Rattle.std.specs.Ordering.{is_lt};
 ghost use Rattle.jj_paths.specs.Names.{name_of};
 ghost use Rattle.jj_paths.specs.Paths.{name_cmp};
 ghost use Rattle.jj_backend.specs.Trees.{Entries, value_at, IsEntryAt, entry_of, entries_left, names_left};
@@ -111,6 +112,18 @@ impl Tree {
         }
     }
 
+    /// Returns whether the names of these entries ascend strictly.
+    pub fn are_sorted(entries: &[(RepoPathComponentBuf, TreeValue)]) -> bool
+        ensures { result ≡ is_sorted name_cmp entries.now }
+    {
+        for i in 1..entries.len() {
+            if !precedes(&entries[i - 1], &entries[i]) {
+                return false;
+            }
+        }
+        true
+    }
+
     /// Creates a tree of entries whose names ascend strictly.
     pub fn from_sorted_entries(entries: Vec<(RepoPathComponentBuf, TreeValue)>) -> Self
         requires { IsTrue (is_sorted name_cmp entries.items) }
@@ -169,6 +182,15 @@ impl Tree {
             None => None,
         }
     }
+}
+
+fn precedes(
+    before: &(RepoPathComponentBuf, TreeValue),
+    after: &(RepoPathComponentBuf, TreeValue),
+) -> bool
+    ensures { result ≡ is_lt (name_cmp before.now.0 after.now.0) }
+{
+    before.0.as_component() < after.0.as_component()
 }
 
 // Returns the index of the entry with this name.
