@@ -9,8 +9,9 @@ use Rattle.jj_merges.specs.declared.merge.SameChange.{SameChange}
 use Rattle.jj_merges.specs.Simplify.{simplified_indices, at_indices}
 use Rattle.jj_merges.specs.Labels.{normalized_labels}
 use Rattle.jj_backend.specs.declared.backend.tree_value.TreeValue.{TreeValue}
-use Rattle.jj_trees.specs.TreeMerges.{Values, is_tree_or_absent, IsUnresolved}
-use Rattle.jj_trees.specs.DirectoryMerges.{Conflict, AppendsOutcome, conflict_entries}
+use Rattle.jj_backend.specs.MergedTreeValues.{Values}
+use Rattle.jj_trees.specs.TreeMerges.{IsUnresolved}
+use Rattle.jj_trees.specs.DirectoryMerges.{AreTreesOrAbsent, Conflict, AppendsOutcome, conflict_entries}
 
 abbrev pub Entry : Type 0
 Entry = Path × Values × List (List ℕ)
@@ -20,7 +21,7 @@ entry_of c = (c.0, record { terms = c.1; labels = c.2 })
 
 pub conflict_done : (eq : Option TreeValue → Option TreeValue → Bool) (same_change : SameChange) (values : Values) (labels : List (List ℕ)) (path : Path)
     (old_r new_r : List (Path × TreeValue)) (old_c new_c : List Entry) (terms : Values) (texts : List (List ℕ))
-    → IsUnresolved eq same_change values → (All (λ v. is_tree_or_absent v ≡ true) values → ⊥)
+    → IsUnresolved eq same_change values → (AreTreesOrAbsent values → ⊥)
     → terms ≡ at_indices values (simplified_indices eq values) → texts ≡ normalized_labels (at_indices labels (simplified_indices eq values))
     → new_r ≡ old_r → ◌≡◌ {A = List Entry} new_c (old_c ++ (path, terms, texts) ∷ [])
     → AppendsOutcome eq same_change values labels path old_r new_r (conflict_entries old_c) (conflict_entries new_c)

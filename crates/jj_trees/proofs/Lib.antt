@@ -5,6 +5,7 @@ pub mod Passing
 pub mod PassedNames
 pub mod Rounds
 pub mod Conflicting
+pub mod PresentTrees
 pub mod Roots
 mod MemoryObjectLemmas
 mod SameRecords

@@ -1,6 +1,8 @@
 -- The merge of a directory, composed from the outcomes at its names.
 use Rattle.std.proofs.Common.{◌≡◌, ◌<◌, ◌+◌, ℕ, suc, zero, Bool, true, false, ◌⊎◌, inl, inr, List, [], ◌∷◌, ◌++◌, length, get_or, map, Option, Some, None, unwrap_or, refl, sym, ap, subst, ◌∙◌, arith, true≢false}
 use Rattle.std.specs.Prelude.{All, Any, Contains, ◌↔◌}
+use Rattle.std.specs.Global.{Global}
+use Rattle.std.specs.declared.string.String.{String}
 use Rattle.std.proofs.lemmas.Option.{none-some}
 use Rattle.std.proofs.lemmas.Int.{ints}
 use Rattle.std.proofs.lemmas.Bool.{and_parts}
@@ -19,9 +21,10 @@ use Rattle.jj_backend.specs.declared.backend.tree_value.TreeValue.{TreeValue}
 use Rattle.jj_backend.specs.declared.backend.tree_value.TreeValue.TheVariants.{File, Symlink, Tree, GitSubmodule}
 use Rattle.std.specs.Cmp.Lexicographic.{bytes_decides}
 use Rattle.jj_backend.specs.declared.backend.errors.BackendError.{BackendError}
-use Rattle.jj_backend.specs.declared.backend.errors.BackendError.TheVariants.{Memory}
-use Rattle.jj_trees.specs.TreeMerges.{Values, MustRecurse, child, values_at, IsOpen}
-use Rattle.jj_trees.specs.DirectoryMerges.{Conflict, IsListOf, IsConflictOf, AppendsOutcome, HasOutcomeFrom, IsResolvedBelow, IsConflictBelow, IsAppended, IsWithin, IsDirectoryError}
+use Rattle.jj_backend.specs.declared.backend.errors.BackendError.TheVariants.{Memory, Unsupported}
+use Rattle.jj_backend.specs.MergedTreeValues.{Values}
+use Rattle.jj_trees.specs.TreeMerges.{child, values_at, IsOpen}
+use Rattle.jj_trees.specs.DirectoryMerges.{MustRecurse, Conflict, IsListOf, IsConflictOf, AppendsOutcome, HasOutcomeFrom, IsResolvedBelow, IsConflictBelow, IsAppended, IsWithin, IsDirectoryError}
 use Rattle.jj_trees.proofs.Joining.{under, below, same_list, Below, none, joined}
 
 module _ {E : Type 0} where
@@ -238,16 +241,21 @@ module _ (eq : Option TreeValue → Option TreeValue → Bool) (same : (v w : Op
             read : (path : Path) → IsOpen trees eq same_change values path → All (is_read (dir ++ path)) (values_at trees values path)
             read [] o = subst (λ d. All (is_read d) values) (sym (append-nil dir)) here
             read (n ∷ p) o = subst (λ d. All (is_read d) (values_at trees (map (child trees n) values) p)) (append_assoc dir (n ∷ []) p)
-                ((inside n o.0).read p o.1)
+                ((inside n (o.0, o.1)).read p o.2)
 
             not_deeper : (path : Path) → IsOpen trees eq same_change values path → length path < upto
             not_deeper [] o = omega arith
-            not_deeper (n ∷ p) o = let lt = (inside n o.0).not_deeper p o.1 in omega arith
+            not_deeper (n ∷ p) o = let lt = (inside n (o.0, o.1)).not_deeper p o.2 in omega arith
 
       -- an error of reading the directory is an error of merging it
       pub error_here : (upto : ℕ) (e : BackendError) → (e ≡ Memory) ⊎ Any (fails dir e) values → IsDirectoryError trees eq same_change is_read fails dir values upto e
       error_here upto e (inl m) = inl m
       error_here upto e (inr f) = inr (inl ([], tt, subst (λ d. Any (fails d e) values) (sym (append-nil dir)) f))
+
+      -- a directory below the deepest level
+      pub error_too_deep : (upto : ℕ) (e : BackendError) → upto ≡ 0 → (e ≡ Memory) ⊎ ((message : String Global) × (e ≡ Unsupported message)) → IsDirectoryError trees eq same_change is_read fails dir values upto e
+      error_too_deep upto e zero_levels (inl m) = inl m
+      error_too_deep upto e zero_levels (inr t) = inr (inr (t.0, [], t.1, tt, sym zero_levels))
 
       -- an error of merging a subdirectory is an error of merging the directory
       pub error_below : (name : Name) (upto : ℕ) (e : BackendError) → upto ≡ levels + 1 → MustRecurse eq same_change (map (child trees name) values)
@@ -255,10 +263,10 @@ module _ (eq : Option TreeValue → Option TreeValue → Bool) (same : (v w : Op
       error_below name upto e is entered (inl m) = inl m
       error_below name upto e is entered (inr (inl t)) = inr (inl (
         name ∷ t.0,
-        (entered, t.1),
+        (entered.0, entered.1, t.1),
         subst (λ d. Any (fails d e) (values_at trees (map (child trees name) values) t.0)) (append_assoc dir (name ∷ []) t.0) t.2,
       ))
-      error_below name upto e is entered (inr (inr t)) = inr (inr (t.0, (name ∷ t.1.0, (entered, t.1.1), (let l = t.1.2 in omega arith))))
+      error_below name upto e is entered (inr (inr t)) = inr (inr (t.0, name ∷ t.1, t.2, (entered.0, entered.1, t.3), (let l = t.4 in omega arith)))
 
 -- equal tree values are identical
 pub same_value : (v w : TreeValue) → tree_values.eq-value.it v w ≡ true → v ≡ w

@@ -1,6 +1,6 @@
 -- A merge that is appended to empty lists at the root is the merge, in the words of its contract.
-use Rattle.std.proofs.Common.{◌≡◌, ◌⊎◌, inl, inr, ℕ, ◌<◌, Bool, List, [], ◌∷◌, ◌++◌, length, get_or, map, Option, Some, None, Err, refl, sym, ap, subst, ◌∙◌, arith}
-use Rattle.std.specs.Prelude.{Result, Any, AllPairs, Contains, ◌↔◌}
+use Rattle.std.proofs.Common.{◌≡◌, ◌⊎◌, inl, inr, ℕ, ◌<◌, Bool, List, [], ◌∷◌, ◌++◌, length, get_or, map, Option, Some, None, Ok, Err, refl, sym, ap, subst, ◌∙◌, arith}
+use Rattle.std.specs.Prelude.{Result, IsSomeAnd, Any, AllPairs, Contains, ◌↔◌}
 use Rattle.std.specs.Bool.{MatchBool}
 use Rattle.std.specs.declared.cmp.Ordering.TheVariants.{Less}
 use Rattle.std.proofs.lemmas.List.{get_or-map, length-map}
@@ -13,8 +13,9 @@ use Rattle.jj_backend.specs.Errors.{is_not_found}
 use Rattle.jj_backend.specs.declared.backend.errors.BackendError.{BackendError}
 use Rattle.jj_backend.specs.declared.backend.tree_value.TreeValue.{TreeValue}
 use Rattle.jj_backend.specs.declared.backend.tree_value.TreeValue.TheVariants.{File, Symlink, Tree, GitSubmodule}
-use Rattle.jj_trees.specs.TreeMerges.{Values, MustRecurse, child, values_at, IsOpen, HasOutcome, IsResolved, IsConflict, AreRead, IsMergeError}
-use Rattle.jj_trees.specs.DirectoryMerges.{Conflict, conflict_entries, IsListOf, IsReadAt, FailsAt, HasOutcomeFrom, HasOutcomeBelow, IsResolvedBelow, IsConflictBelow, IsMerge, IsAppended, IsWithin, IsDirectoryError}
+use Rattle.jj_backend.specs.MergedTreeValues.{Values}
+use Rattle.jj_trees.specs.TreeMerges.{child, values_at, IsOpen, HasOutcome, IsResolved, IsConflict, AreRead, IsMergeError}
+use Rattle.jj_trees.specs.DirectoryMerges.{MustRecurse, Conflict, conflict_entries, IsListOf, IsReadAt, FailsAt, HasOutcomeFrom, HasOutcomeBelow, IsResolvedBelow, IsConflictBelow, IsMerge, IsAppended, IsWithin, IsDirectoryError}
 use Rattle.jj_trees.proofs.Joining.{under, image_of, into_image}
 
 module _ {E : Type 0} where
@@ -69,11 +70,14 @@ ascending_triples cs h = λ i j d lt within.
 module _ (trees : ById Entries) (eq : Option TreeValue → Option TreeValue → Bool) (same_change : SameChange) where
   -- ---- the recursive form of HasOutcome
 
+  open_rest : (name : Name) (values : Values) (rest : Path) → IsOpen trees eq same_change values (name ∷ rest) → IsOpen trees eq same_change (map (child trees name) values) rest
+  open_rest name values rest is_open = is_open.2
+
   split : (name : Name) (values : Values) (rest : Path) → HasOutcomeBelow trees eq same_change values (name ∷ rest) → HasOutcome trees eq same_change values (name ∷ rest)
-  split name values [] h = ([], name, refl, tt, h)
+  split name values [] h = ([], name, refl, tt, λ is_open. h (is_open.0, is_open.1))
   split name values (m ∷ rest) h =
       let r = split m (map (child trees name) values) rest h.1 in
-      (name ∷ r.0, r.1, ap (λ p. name ∷ p) r.2, (h.0, r.3), r.4)
+      (name ∷ r.0, r.1, ap (λ p. name ∷ p) r.2, (h.0.0, h.0.1, r.3), λ is_open. r.4 (open_rest name values (m ∷ rest) is_open))
 
   has_outcome : (values : Values) (path : Path) → HasOutcomeBelow trees eq same_change values path → HasOutcome trees eq same_change values path
   has_outcome values [] h = absurd h
@@ -84,15 +88,16 @@ module _ (trees : ById Entries) (eq : Option TreeValue → Option TreeValue → 
   into values (name ∷ rest) must h = (must, h)
 
   join : (values : Values) (dir : Path) (name : Name) → IsOpen trees eq same_change values dir
-      → (MustRecurse eq same_change (values_at trees values (dir ++ name ∷ [])) → ⊥) → HasOutcomeBelow trees eq same_change values (dir ++ name ∷ [])
-  join values [] name is_open not = not
+      → (IsOpen trees eq same_change values (dir ++ name ∷ []) → ⊥) → HasOutcomeBelow trees eq same_change values (dir ++ name ∷ [])
+  join values [] name is_open not = λ must. not (must.0, must.1, tt)
   join values (m ∷ dir) name is_open not =
-      into (map (child trees m) values) (dir ++ name ∷ []) is_open.0 (join (map (child trees m) values) dir name is_open.1 not)
+      into (map (child trees m) values) (dir ++ name ∷ []) (is_open.0, is_open.1)
+      (join (map (child trees m) values) dir name is_open.2 (λ rest. not (is_open.0, is_open.1, rest)))
 
   outcome_below : (values : Values) (path : Path) → HasOutcome trees eq same_change values path → HasOutcomeBelow trees eq same_change values path
   outcome_below values path h =
       subst (HasOutcomeBelow trees eq same_change values) (sym h.2)
-      (join values h.0 h.1 h.3 (subst (λ p. MustRecurse eq same_change (values_at trees values p) → ⊥) h.2 h.4))
+      (join values h.0 h.1 h.3 (subst (λ p. IsOpen trees eq same_change values p → ⊥) h.2 h.4))
 
   -- ---- the clauses of a merge
 
@@ -118,7 +123,9 @@ module _ (trees : ById Entries) (eq : Option TreeValue → Option TreeValue → 
     pub are_read : (fails : Path → BackendError → Option TreeValue → Type 0)
         → IsWithin trees eq same_change (IsReadAt trees may_read_tree) fails [] values levels → AreRead trees eq same_change may_read_tree values levels
     are_read fails w = record {
-      read = λ path id is_open among. All-contains (IsReadAt trees may_read_tree path) (values_at trees values path) (Some (Tree id)) (w.read path is_open) among;
+      read = λ path id is_open among.
+          let r = All-contains (IsReadAt trees may_read_tree path) (values_at trees values path) (Some (Tree id)) (w.read path is_open) among in
+          subst (λ o. IsSomeAnd o (λ entries. may_read_tree path id (Ok entries))) (sym r.2) r.1;
       not_deeper = w.not_deeper;
     }
 

@@ -15,8 +15,9 @@ use Rattle.jj_backend.specs.Objects.{ById}
 use Rattle.jj_trees.specs.Rows.{AreRows}
 use Rattle.jj_backend.specs.declared.backend.tree_value.TreeValue.{TreeValue}
 use Rattle.jj_backend.specs.declared.backend.errors.BackendError.{BackendError}
-use Rattle.jj_trees.specs.TreeMerges.{Values, MustRecurse, child}
-use Rattle.jj_trees.specs.DirectoryMerges.{Conflict, AppendsOutcome, entries_of, IsAppended, IsWithin, IsDirectoryError}
+use Rattle.jj_backend.specs.MergedTreeValues.{Values}
+use Rattle.jj_trees.specs.TreeMerges.{child}
+use Rattle.jj_trees.specs.DirectoryMerges.{MustRecurse, Conflict, AppendsOutcome, entries_of, IsAppended, IsWithin, IsDirectoryError}
 use Rattle.jj_trees.proofs.Joining.{image_of, into_image}
 use Rattle.jj_trees.proofs.Merging.{Passed, step_here, step_entered, merged, all_within, error_below}
 use Rattle.jj_trees.proofs.Passing.{row_values, row_above, absent_below, absent_decided}

@@ -1,23 +1,26 @@
--- The merge of one directory, relative to it: what the recursive calls of a merge append.
+-- The merge of one directory, relative to it: the entries that the recursive calls append.
 -- Machinery of private functions and fields.
-use Rattle.std.specs.Prelude.{◌≡◌, ◌↔◌, ◌⊎◌, ⊤, ℕ, ◌<◌, Bool, true, List, [], ◌∷◌, ◌++◌, map}
-use Rattle.std.specs.Prelude.{length, Option, Some, None, unwrap_or, All, Any}
+use Rattle.std.specs.Prelude.{◌≡◌, ◌↔◌, ◌⊎◌, ⊤, ℕ, ◌<◌, Bool, List, [], ◌∷◌, ◌++◌, map}
+use Rattle.std.specs.Prelude.{length, Option, Some, None, unwrap_or, IfSome, All, Any}
 use Rattle.std.specs.Prelude.{AllPairs, Contains, Result, Ok, Err}
 use Rattle.std.specs.Bool.{MatchBool}
 use Rattle.std.specs.declared.cmp.Ordering.TheVariants.{Less}
+use Rattle.std.specs.Global.{Global}
+use Rattle.std.specs.declared.string.String.{String}
 use Rattle.jj_paths.specs.Paths.{Name, Path, path_cmp}
 use Rattle.jj_merges.specs.declared.merge.SameChange.{SameChange}
 use Rattle.jj_merges.specs.Resolution.{ResolvesTo}
 use Rattle.jj_merges.specs.Simplify.{simplified_indices, at_indices}
 use Rattle.jj_merges.specs.Labels.{normalized_labels}
 use Rattle.jj_backend.specs.Objects.{ById}
-use Rattle.jj_backend.specs.Errors.{is_not_found, is_unsupported}
+use Rattle.jj_backend.specs.Errors.{is_not_found}
+use Rattle.jj_backend.specs.MergedTreeValues.{Values}
 use Rattle.jj_backend.specs.Trees.{Entries}
 use Rattle.jj_backend.specs.declared.backend.tree_value.TreeValue.{TreeValue}
 use Rattle.jj_backend.specs.declared.backend.tree_value.TreeValue.TheVariants.{File, Symlink, Tree, GitSubmodule}
 use Rattle.jj_backend.specs.declared.backend.errors.BackendError.{BackendError}
-use Rattle.jj_backend.specs.declared.backend.errors.BackendError.TheVariants.{Memory}
-use Rattle.jj_trees.specs.TreeMerges.{Values, IsUnresolved, MustRecurse, child, values_at, IsOpen}
+use Rattle.jj_backend.specs.declared.backend.errors.BackendError.TheVariants.{Memory, Unsupported}
+use Rattle.jj_trees.specs.TreeMerges.{IsUnresolved, child, values_at, IsOpen}
 
 -- the terms of a conflict and their labels
 pub record Conflict : Type 0 where
@@ -28,6 +31,10 @@ pub record Conflict : Type 0 where
 abbrev pub conflict_entries : List (Path × Values × List (List ℕ)) → List (Path × Conflict)
 conflict_entries = map (λ c. (c.0, record { terms = c.1; labels = c.2 }))
 
+-- the values that are present are trees
+abbrev pub AreTreesOrAbsent : Values → Type 0
+AreTreesOrAbsent = All (λ v. IfSome v (λ value. (id : List ℕ) × (value ≡ Tree id)))
+
 -- the entries ascend strictly by path, and are exactly those for which Holds
 pub record IsListOf {E : Type 0} (Holds : Path → E → Type 0)
     (entries : List (Path × E)) : Type 0 where
@@ -35,6 +42,10 @@ pub record IsListOf {E : Type 0} (Holds : Path → E → Type 0)
   pub exactly : (path : Path) (e : E) → Contains entries (path, e) ↔ Holds path e
 
 module _ (eq : Option TreeValue → Option TreeValue → Bool) (same_change : SameChange) where
+  -- the values are merged entry by entry: they do not resolve, and all present ones are trees
+  abbrev pub MustRecurse : Values → Type 0
+  MustRecurse values = IsUnresolved eq same_change values × AreTreesOrAbsent values
+
   -- the conflict of values that do not resolve: the simplified terms with their labels
   abbrev pub IsConflictOf : Values → List (List ℕ) → Conflict → Type 0
   IsConflictOf values labels conflict =
@@ -145,5 +156,5 @@ module _ (trees : ById (List (Name × TreeValue))) where
           (e ≡ Memory)
           ⊎ ((path : Path) × IsOpen trees eq same_change values path
           × Any (fails (dir ++ path) e) (values_at trees values path))
-          ⊎ ((is_unsupported e ≡ true)
-          × ((path : Path) × IsOpen trees eq same_change values path × (length path ≡ levels)))
+          ⊎ ((message : String Global) × (path : Path) × (e ≡ Unsupported message)
+          × IsOpen trees eq same_change values path × (length path ≡ levels))

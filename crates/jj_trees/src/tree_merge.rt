@@ -1,22 +1,25 @@
 //! Recursive merge of trees: trivial resolution of the values at each path, and recursion into
 //! directories that do not resolve.
-ghost use Rattle.std.specs.Prelude.{◌≡◌, ◌↔◌, ◌⊎◌, ℕ, List, [], map, length, Option, IsTrue, true};
+ghost use Rattle.std.specs.Prelude.{◌≡◌, ◌↔◌, ◌⊎◌, ℕ, List, [], map, length, Option};
 ghost use Rattle.std.specs.Prelude.{All, AllPairs, Any, Contains, IfOk, IfErr, IfSome, IsNone, OnOk};
 ghost use Rattle.std.specs.NonZero.{non_zero_usize_get};
+ghost use Rattle.std.specs.Global.{Global as GlobalValue};
+ghost use Rattle.std.specs.declared.string.String.{String as StringValue};
 ghost use Rattle.jj_merges.specs.Merge.{IsOdd};
 ghost use Rattle.jj_paths.specs.Names.{path_of};
-ghost use Rattle.jj_paths.specs.Paths.{Path, path_cmp};
-ghost use Rattle.jj_backend.specs.Errors.{is_unsupported};
+ghost use Rattle.jj_paths.specs.Paths.{Path};
 ghost use Rattle.jj_backend.specs.declared.backend.tree_value.TreeValue.{TreeValue};
 ghost use Rattle.jj_trees.specs.Steps.{IsStep};
-ghost use Rattle.jj_trees.specs.TreeMerges.{AreRead, IsConflict, IsMergeError, IsResolved};
-ghost use Rattle.jj_trees.specs.TreeMerges.{MustRecurse, Values, is_tree_or_absent, most_levels, root_values};
-ghost use Rattle.jj_trees.specs.DirectoryMerges.{AppendsOutcome, FailsAt, IsAppended, IsDirectoryError};
-ghost use Rattle.jj_trees.specs.DirectoryMerges.{IsReadAt, IsWithin, conflict_entries, entries_of};
+ghost use Rattle.jj_trees.specs.TreeMerges.{AreRead, IsConflict, IsMergeError, IsResolved, root_values};
+ghost use Rattle.jj_trees.specs.DirectoryMerges.{AppendsOutcome, FailsAt, IsAppended};
+ghost use Rattle.jj_trees.specs.DirectoryMerges.{IsDirectoryError, IsReadAt, IsWithin, MustRecurse};
+ghost use Rattle.jj_trees.specs.DirectoryMerges.{conflict_entries, entries_of};
 
 mod rows;
 
-use jj_backend::backend::{Backend, BackendError, BackendResult, Tree, TreeId, TreeValue};
+use jj_backend::backend::{
+    Backend, BackendError, BackendResult, Tree, TreeId, TreeValue, are_trees_or_absent,
+};
 use jj_merges::conflict_labels::ConflictLabels;
 use jj_merges::merge::{Merge, SameChange, trivial_merge};
 use jj_paths::repo_path::{RepoPath, RepoPathBuf};
@@ -41,15 +44,6 @@ struct Directory {
     values: Vec<Option<TreeValue>>,
 }
 
-// Returns whether every present value is a tree.
-fn are_trees(values: &[Option<TreeValue>]) -> bool
-    ensures { IsTrue result ↔ All (λ v. is_tree_or_absent v ≡ true) values.now }
-{
-    values
-        .iter()
-        .all(|value| matches!(value, None | Some(TreeValue::Tree(_))))
-}
-
 /// The result of a merge of trees: the paths that resolve to a present value, and the conflicts,
 /// simplified, each with the labels of its terms. Both lists are in ascending order of paths.
 #[derive(Drop)]
@@ -66,7 +60,7 @@ fn classify(values: &[Option<TreeValue>], same_change: SameChange) -> Step<'_>
         Some(Some(value)) => Step::Resolved(value),
         Some(None) => Step::Absent,
         None => {
-            if are_trees(values) {
+            if are_trees_or_absent(values) {
                 Step::Recurse
             } else {
                 Step::Conflict
@@ -118,7 +112,8 @@ fn read_trees<B: Backend>(
 }
 
 fn too_deep_error(alloc: Global) -> BackendError
-    ensures { (result ≡ BackendError.Memory) ⊎ (is_unsupported result ≡ true) }
+    ensures { (result ≡ BackendError.Memory)
+        ⊎ ((message : StringValue GlobalValue) × (result ≡ BackendError.Unsupported message)) }
 {
     match String::from_str(alloc, "trees are nested too deep") {
         Ok(message) => BackendError::Unsupported(message),
@@ -254,13 +249,13 @@ pub fn merge_trees_within<B: Backend>(
         ↔ IsResolved (B.objects backend.now).trees ⟦<Option<TreeValue> as PartialEq>⟧.eq same_change
         (root_values trees.now) path value) }
     ensures conflicts { IfOk result (λ m.
-        (path : Path) (terms : Values) (term_labels : List (List ℕ)) →
+        (path : Path) (terms : List (Option TreeValue)) (term_labels : List (List ℕ)) →
         Contains m.conflicts.items (path, terms, term_labels)
         ↔ IsConflict (B.objects backend.now).trees ⟦<Option<TreeValue> as PartialEq>⟧.eq same_change
         (root_values trees.now) labels.now path terms term_labels) }
     ensures ascending { IfOk result (λ m.
-        AllPairs (λ a b. path_cmp a.0 b.0 ≡ Ordering.Less) m.resolved.items
-        × AllPairs (λ a b. path_cmp a.0 b.0 ≡ Ordering.Less) m.conflicts.items) }
+        AllPairs (λ a b. ⟦<RepoPathBuf as Ord>⟧.cmp a.0 b.0 ≡ Ordering.Less) m.resolved.items
+        × AllPairs (λ a b. ⟦<RepoPathBuf as Ord>⟧.cmp a.0 b.0 ≡ Ordering.Less) m.conflicts.items) }
     ensures read { OnOk result (AreRead (B.objects backend.now).trees
         ⟦<Option<TreeValue> as PartialEq>⟧.eq same_change (B.may_read_tree backend.now)
         (root_values trees.now) (non_zero_usize_get levels)) }
@@ -303,19 +298,19 @@ pub fn merge_trees<B: Backend>(
         ↔ IsResolved (B.objects backend.now).trees ⟦<Option<TreeValue> as PartialEq>⟧.eq same_change
         (root_values trees.now) path value) }
     ensures conflicts { IfOk result (λ m.
-        (path : Path) (terms : Values) (term_labels : List (List ℕ)) →
+        (path : Path) (terms : List (Option TreeValue)) (term_labels : List (List ℕ)) →
         Contains m.conflicts.items (path, terms, term_labels)
         ↔ IsConflict (B.objects backend.now).trees ⟦<Option<TreeValue> as PartialEq>⟧.eq same_change
         (root_values trees.now) labels.now path terms term_labels) }
     ensures ascending { IfOk result (λ m.
-        AllPairs (λ a b. path_cmp a.0 b.0 ≡ Ordering.Less) m.resolved.items
-        × AllPairs (λ a b. path_cmp a.0 b.0 ≡ Ordering.Less) m.conflicts.items) }
+        AllPairs (λ a b. ⟦<RepoPathBuf as Ord>⟧.cmp a.0 b.0 ≡ Ordering.Less) m.resolved.items
+        × AllPairs (λ a b. ⟦<RepoPathBuf as Ord>⟧.cmp a.0 b.0 ≡ Ordering.Less) m.conflicts.items) }
     ensures read { OnOk result (AreRead (B.objects backend.now).trees
         ⟦<Option<TreeValue> as PartialEq>⟧.eq same_change (B.may_read_tree backend.now)
-        (root_values trees.now) most_levels) }
+        (root_values trees.now) 1024) }
     ensures error { IfErr result (IsMergeError (B.objects backend.now).trees
         ⟦<Option<TreeValue> as PartialEq>⟧.eq same_change (B.may_read_tree backend.now)
-        (B.may_fail backend.now) (root_values trees.now) most_levels) }
+        (B.may_fail backend.now) (root_values trees.now) 1024) }
 {
     let Some(levels) = NonZeroUsize::new(MOST_LEVELS) else {
         unreachable!();

@@ -5,7 +5,8 @@ use Rattle.jj_paths.specs.Paths.{Name, Path}
 use Rattle.jj_backend.specs.Objects.{ById}
 use Rattle.jj_backend.specs.declared.backend.tree_value.TreeValue.{TreeValue}
 use Rattle.jj_backend.specs.declared.backend.tree_value.TreeValue.TheVariants.{Tree}
-use Rattle.jj_trees.specs.TreeMerges.{Values, child, root_values, values_at}
+use Rattle.jj_backend.specs.MergedTreeValues.{Values}
+use Rattle.jj_trees.specs.TreeMerges.{child, root_values, values_at}
 
 pub length-values_at : (trees : ById (List (Name × TreeValue))) (values : Values) (path : Path) → length (values_at trees values path) ≡ length values
 length-values_at trees values [] = refl

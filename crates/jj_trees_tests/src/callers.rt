@@ -1,11 +1,12 @@
 //! Proved callers of the in-memory backend and of recursive tree merges.
-ghost use Rattle.std.specs.Prelude.{◌≡◌, ◌↔◌, ◌⊎◌, ℕ, List, [], length, AllPairs, Contains, IfOk, IfErr, string_bytes};
+ghost use Rattle.std.specs.Prelude.{◌≡◌, ◌↔◌, ◌⊎◌, ℕ, List, [], length, Option, AllPairs};
+ghost use Rattle.std.specs.Prelude.{Contains, IfOk, IfErr, string_bytes};
 ghost use Rattle.jj_merges.specs.Merge.{HaveSameCounts, IsDisjoint};
 ghost use Rattle.jj_merges.specs.declared.merge.SameChange.TheVariants.{Accept};
 ghost use Rattle.jj_backend.specs.declared.backend.tree_value.TreeValue.{TreeValue};
-ghost use Rattle.jj_paths.specs.Paths.{Path, path_cmp};
+ghost use Rattle.jj_paths.specs.Paths.{Path};
 ghost use Rattle.jj_trees.specs.MemoryObjects.{objects_of};
-ghost use Rattle.jj_trees.specs.TreeMerges.{IsConflict, IsResolved, Values, root_values, values_at};
+ghost use Rattle.jj_trees.specs.TreeMerges.{IsConflict, IsResolved, root_values, values_at};
 ghost use Rattle.jj_trees_tests.specs.Writes.{IsWriteError};
 
 use jj_backend::backend::{
@@ -43,7 +44,8 @@ pub fn conflicts<B: Backend>(
     backend: &B,
     trees: &Merge<TreeId>,
 ) -> BackendResult<Vec<(RepoPathBuf, Merge<Option<TreeValue>>, ConflictLabels)>>
-    ensures { IfOk result (λ found. (path : Path) (terms : Values) (labels : List (List ℕ)) →
+    ensures { IfOk result (λ found.
+        (path : Path) (terms : List (Option TreeValue)) (labels : List (List ℕ)) →
         Contains found.items (path, terms, labels)
         → HaveSameCounts ⟦<Option<TreeValue> as PartialEq>⟧.eq terms
         (values_at (B.objects backend.now).trees (root_values trees.now) path)
@@ -133,13 +135,13 @@ pub fn merge_in_memory(
         ↔ IsResolved (objects_of backend.now).trees ⟦<Option<TreeValue> as PartialEq>⟧.eq
         same_change (root_values trees.now) path value) }
     ensures conflicts { IfOk result (λ m.
-        (path : Path) (terms : Values) (term_labels : List (List ℕ)) →
+        (path : Path) (terms : List (Option TreeValue)) (term_labels : List (List ℕ)) →
         Contains m.conflicts.items (path, terms, term_labels)
         ↔ IsConflict (objects_of backend.now).trees ⟦<Option<TreeValue> as PartialEq>⟧.eq
         same_change (root_values trees.now) labels.now path terms term_labels) }
     ensures ascending { IfOk result (λ m.
-        AllPairs (λ a b. path_cmp a.0 b.0 ≡ Ordering.Less) m.resolved.items
-        × AllPairs (λ a b. path_cmp a.0 b.0 ≡ Ordering.Less) m.conflicts.items) }
+        AllPairs (λ a b. ⟦<RepoPathBuf as Ord>⟧.cmp a.0 b.0 ≡ Ordering.Less) m.resolved.items
+        × AllPairs (λ a b. ⟦<RepoPathBuf as Ord>⟧.cmp a.0 b.0 ≡ Ordering.Less) m.conflicts.items) }
 {
     merge_trees(alloc, backend, trees, labels, same_change)
 }

@@ -98,7 +98,7 @@ pub(super) fn insert_object<K: IdKind, V: PartialEq + Drop>(
     value: V,
 ) -> BackendResult<Id<K>>
     requires { (v w : V) → Decides (V.eq v w) (v ≡ w) }
-    ensures id { IfOk result (λ answer. answer ≡ id) }
+    ensures id { IfOk result (λ stored_id. stored_id ≡ id) }
     ensures free { OnOk result (IsFree (by_id objects.old.entries) id value) }
     ensures added { OnOk result (by_id objects.new.entries
         ≡ put (by_id objects.old.entries) id value) }
@@ -130,17 +130,15 @@ pub(super) fn insert_and_return<K: IdKind, V: Clone + PartialEq + Drop>(
 ) -> BackendResult<(Id<K>, V)>
     requires clones { (v w : V) → V.is_clone v w → w ≡ v }
     requires decides { (v w : V) → Decides (V.eq v w) (v ≡ w) }
-    ensures id { IfOk result (λ answer. answer.0 ≡ id) }
-    ensures value { IfOk result (λ answer. answer.1 ≡ value) }
+    ensures id { IfOk result (λ stored. stored.0 ≡ id) }
+    ensures value { IfOk result (λ stored. stored.1 ≡ value) }
     ensures free { OnOk result (IsFree (by_id objects.old.entries) id value) }
     ensures added { OnOk result (by_id objects.new.entries
         ≡ put (by_id objects.old.entries) id value) }
     ensures unchanged { OnErr result (objects.new.entries ≡ objects.old.entries) }
     ensures error { IfErr result (IsStoreError objects.old.entries id value) }
 {
-    let answer = value.clone()?;
-    match insert_object(alloc, objects, id, value) {
-        Ok(id) => Ok((id, answer)),
-        Err(error) => Err(error),
-    }
+    let stored = value.clone()?;
+    let id = insert_object(alloc, objects, id, value)?;
+    Ok((id, stored))
 }

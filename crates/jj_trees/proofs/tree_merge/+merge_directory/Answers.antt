@@ -6,7 +6,7 @@ use Rattle.jj_paths.specs.Names.{path_of}
 use Rattle.jj_paths.specs.Paths.{Name}
 use Rattle.std.specs.Option.{option_eq}
 use Rattle.jj_trees.specs.declared.tree_merge.rows.Row.{Row}
-use Rattle.jj_trees.specs.TreeMerges.{Values}
+use Rattle.jj_backend.specs.MergedTreeValues.{Values}
 use Rattle.jj_trees.specs.DirectoryMerges.{IsReadAt, FailsAt, conflict_entries}
 use Rattle.jj_backend.specs.contracts.backend.tree_value.TreeValuePartialEq.TheImpl as tree_values
 use Rattle.jj_trees.proofs.Merging.{same_values, passed_none, error_here}
