@@ -1,33 +1,17 @@
 //! Builders of names, paths, trees and merges, for the tests and proved callers.
-ghost use Rattle.std.specs.Prelude.{◌≡◌, IsTrue, IfSome};
-ghost use Rattle.std.specs.FinMap.{is_sorted};
-ghost use Rattle.jj_paths.specs.Paths.{name_cmp};
+ghost use Rattle.std.specs.Prelude.{◌≡◌, IfSome};
 
-use jj_backend::backend::{BackendError, BackendResult, CopyId, FileId, Tree, TreeId, TreeValue};
+use jj_backend::backend::{BackendError, BackendResult, CopyId, FileId, Tree, TreeValue};
 use jj_files::file_util::{SourceError, SourceKind};
 use jj_merges::merge::{Diff, Merge};
 use jj_paths::repo_path::{RepoPathBuf, RepoPathComponentBuf};
-use std::alloc::Global;
-use std::cmp::Ordering;
-
-/// Returns whether the names of these entries ascend strictly.
-pub fn are_ascending(entries: &[(RepoPathComponentBuf, TreeValue)]) -> bool
-    ensures { IsTrue result → IsTrue (is_sorted name_cmp entries.now) }
-{
-    for i in 1..entries.len() {
-        let before = entries[i - 1].0.as_component();
-        if before.cmp(&entries[i].0.as_component()) != Ordering::Less {
-            return false;
-        }
-    }
-    true
-}
+use std::alloc::{AllocError, Global};
 
 /// Creates a tree of entries, or returns `None` if their names do not ascend strictly.
 pub fn tree_of_entries(entries: Vec<(RepoPathComponentBuf, TreeValue)>) -> Option<Tree>
     ensures { IfSome result (λ tree. tree ≡ entries.items) }
 {
-    if are_ascending(&entries) {
+    if Tree::are_sorted(&entries) {
         Some(Tree::from_sorted_entries(entries))
     } else {
         None
@@ -81,15 +65,14 @@ pub fn plain_file(alloc: Global, id: FileId) -> TreeValue {
     }
 }
 
-/// Creates the merge of a first tree with changes, each a pair of the trees before and after.
-pub fn tree_merge_of(
+/// Creates the merge of two sides and their base.
+pub fn sides_of<T: Drop>(
     alloc: Global,
-    first: TreeId,
-    changes: Vec<(TreeId, TreeId)>,
-) -> BackendResult<Merge<TreeId>> {
+    left: T,
+    base: T,
+    right: T,
+) -> Result<Merge<T>, AllocError> {
     let mut diffs = Vec::new(alloc);
-    for (before, after) in changes {
-        diffs.push(Diff::new(before, after))?;
-    }
-    Ok(Merge::from_diffs(alloc, first, diffs)?)
+    diffs.push(Diff::new(base, right))?;
+    Merge::from_diffs(alloc, left, diffs)
 }

@@ -1,6 +1,7 @@
 //! Tests of merges of nested trees at the deepest level and one level below it.
-use crate::building::{ascending_tree, component, plain_file, tree_merge_of};
+use crate::building::{ascending_tree, component, plain_file, sides_of};
 use jj_backend::backend::{Backend, BackendError, BackendResult, TreeId, TreeValue};
+use jj_content_tests::retry::holds;
 use jj_merges::conflict_labels::ConflictLabels;
 use jj_merges::merge::{Merge, SameChange};
 use jj_paths::repo_path::RepoPath;
@@ -8,7 +9,6 @@ use jj_trees::memory_backend::MemoryBackend;
 use jj_trees::tree_merge::{TreeMerge, merge_trees};
 use std::alloc::Global;
 use std::process::Abort;
-use std::test::Fail;
 
 // Writes a tree with this value at the name `d`.
 fn write_above(
@@ -46,17 +46,19 @@ fn write_three_nested(
     let left = write_nested(alloc, backend, b'1', levels)?;
     let base = write_nested(alloc, backend, b'0', levels)?;
     let right = write_nested(alloc, backend, b'2', levels)?;
-    let mut changes = Vec::new(alloc);
-    changes.push((base, right))?;
-    tree_merge_of(alloc, left, changes)
+    Ok(sides_of(alloc, left, base, right)?)
+}
+
+fn merge_in(alloc: Global, backend: &mut MemoryBackend, levels: usize) -> BackendResult<TreeMerge> {
+    let trees = write_three_nested(alloc, backend, levels)?;
+    let labels = ConflictLabels::unlabeled(alloc);
+    merge_trees(alloc, backend, &trees, &labels, SameChange::Accept)
 }
 
 // Merges three trees that differ in one nested file.
 fn merge_nested(alloc: Global, levels: usize) -> BackendResult<TreeMerge> {
     let mut backend = MemoryBackend::new(alloc)?;
-    let trees = write_three_nested(alloc, &mut backend, levels)?;
-    let labels = ConflictLabels::unlabeled(alloc);
-    merge_trees(alloc, &backend, &trees, &labels, SameChange::Accept)
+    merge_in(alloc, &mut backend, levels)
 }
 
 // Whether the result is a single conflict of three terms at a path of `bytes` bytes.
@@ -71,22 +73,20 @@ fn is_one_conflict(merge: &TreeMerge, bytes: usize) -> bool {
     }
 }
 
-#[test]
-fn deepest_level(rt: HostRuntime) -> Result<(), Fail> {
-    let merge = match merge_nested(rt.alloc(), 1024) {
-        Err(BackendError::Memory) => merge_nested(rt.alloc(), 1024)?,
-        merge => merge?,
-    };
-    assert!(rt; is_one_conflict(&merge, 2047));
-    Ok(())
+fn merges_deepest_level(alloc: Global) -> BackendResult<bool> {
+    Ok(is_one_conflict(&merge_nested(alloc, 1024)?, 2047))
+}
+
+fn rejects_next_level(alloc: Global) -> BackendResult<bool> {
+    match merge_nested(alloc, 1025) {
+        Err(BackendError::Unsupported(_)) => Ok(true),
+        Err(error) => Err(error),
+        Ok(_) => Ok(false),
+    }
 }
 
 #[test]
-fn too_deep(rt: HostRuntime) -> Result<(), Fail> {
-    let merge = match merge_nested(rt.alloc(), 1025) {
-        Err(BackendError::Memory) => merge_nested(rt.alloc(), 1025),
-        merge => merge,
-    };
-    assert!(rt; matches!(merge, Err(BackendError::Unsupported(_))));
-    Ok(())
+fn levels_are_limited(rt: HostRuntime) {
+    assert!(rt; holds(&rt, merges_deepest_level));
+    assert!(rt; holds(&rt, rejects_next_level));
 }

@@ -10,13 +10,9 @@ pub mod callers;
 #[cfg(test)]
 mod levels_tests;
 #[cfg(test)]
-mod memory;
-#[cfg(test)]
 mod one_byte_tests;
 #[cfg(test)]
 mod read_paths;
-#[cfg(test)]
-mod signing_tests;
 #[cfg(test)]
 pub mod three_sides;
 #[cfg(test)]

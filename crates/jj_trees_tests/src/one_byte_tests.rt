@@ -1,66 +1,74 @@
-//! Tests of writing more files than there are ids of one byte.
-use crate::memory::{ids_of_one_byte, read_file, write_file};
-use jj_backend::backend::{BackendError, BackendResult, FileId};
+//! Test of writing more files than there are ids of one byte.
+use jj_backend::backend::{Backend, BackendError, BackendResult, FileId};
+use jj_content_tests::retry::holds;
+use jj_paths::repo_path::RepoPath;
 use jj_trees::memory_backend::MemoryBackend;
-use std::alloc::{AllocError, Global};
+use std::alloc::Global;
 use std::process::Abort;
-use std::test::Fail;
 
-// The ids of the files that were written, with the number that each contains.
-type WrittenFiles = Vec<(FileId, u16)>;
-
-fn record_file(files: &mut WrittenFiles, id: FileId, number: u16) -> Result<(), AllocError> {
-    if files.try_reserve(1).is_err() {
-        files.try_reserve(1)?;
-    }
-    files.push((id, number))?;
-    Ok(())
+// A backend with ids of one byte, and the ids of the files that were written, with the number that
+// each contains.
+#[derive(Drop)]
+struct OneByteIds {
+    backend: MemoryBackend,
+    files: Vec<(FileId, u16)>,
+    failures: u16,
 }
 
-// Whether each file still contains its number.
-fn all_read(alloc: Global, backend: &MemoryBackend, files: &WrittenFiles) -> BackendResult<bool> {
-    for (id, number) in files {
-        if read_file(alloc, backend, id)?.as_slice() != number.to_le_bytes().as_slice() {
-            return Ok(false);
+impl OneByteIds {
+    // Writes the file of a number, or counts the failure if the id is taken.
+    fn write(&mut self, alloc: Global, number: u16) -> BackendResult<()> {
+        let contents = number.to_le_bytes();
+        match self.backend.write_file(alloc, RepoPath::root(), &contents) {
+            Ok(id) => self.files.push((id, number))?,
+            Err(BackendError::Other(_)) => self.failures = self.failures.saturating_add(1),
+            Err(error) => return Err(error),
         }
+        Ok(())
     }
-    Ok(true)
+
+    fn contains(&self, alloc: Global, id: &FileId, number: u16) -> BackendResult<bool> {
+        let contents = self.backend.read_file(alloc, RepoPath::root(), id)?;
+        Ok(contents.as_slice() == number.to_le_bytes().as_slice())
+    }
+
+    // Returns whether each file still contains its number.
+    fn are_kept(&self, alloc: Global) -> BackendResult<bool> {
+        for (id, number) in &self.files {
+            if !self.contains(alloc, id, *number)? {
+                return Ok(false);
+            }
+        }
+        Ok(true)
+    }
+
+    // Writes the files of the numbers below `count` and, after each write, reads all files written
+    // so far.
+    fn write_all(&mut self, alloc: Global, count: u16) -> BackendResult<bool> {
+        for number in 0..count {
+            self.write(alloc, number)?;
+            if !self.are_kept(alloc)? {
+                return Ok(false);
+            }
+        }
+        Ok(true)
+    }
 }
 
-// Writes the file of a number. Returns whether the write fails because the id is taken.
-fn write_fails(
-    alloc: Global,
-    backend: &mut MemoryBackend,
-    files: &mut WrittenFiles,
-    number: u16,
-) -> BackendResult<bool> {
-    match write_file(alloc, backend, number.to_le_bytes().as_slice()) {
-        Ok(id) => {
-            record_file(files, id, number)?;
-            Ok(false)
-        }
-        Err(BackendError::Other(_)) => Ok(true),
-        Err(error) => Err(error),
-    }
+fn new_backend(alloc: Global) -> BackendResult<OneByteIds> {
+    Ok(OneByteIds {
+        backend: MemoryBackend::with_id_length(alloc, 1)?,
+        files: Vec::new(alloc),
+        failures: 0,
+    })
 }
 
-// Writes `count` files and, after each write, reads all files written so far. Returns the number
-// of failed writes.
-fn count_failures<R: Abort>(rt: &R, alloc: Global, count: u16) -> BackendResult<u16> {
-    let mut backend = ids_of_one_byte(alloc)?;
-    let mut files = Vec::new(alloc);
-    let mut failures = 0u16;
-    for number in 0..count {
-        if write_fails(alloc, &mut backend, &mut files, number)? {
-            failures = failures.saturating_add(1);
-        }
-        assert!(rt; all_read(alloc, &backend, &files)?);
-    }
-    Ok(failures)
+fn some_writes_fail(alloc: Global) -> BackendResult<bool> {
+    let mut ids = new_backend(alloc)?;
+    Ok(ids.write_all(alloc, 257)? && ids.failures > 0)
 }
 
 #[test]
-fn some_of_257_writes_fail(rt: HostRuntime) -> Result<(), Fail> {
-    assert!(rt; count_failures(&rt, rt.alloc(), 257)? > 0);
-    Ok(())
+fn some_of_257_writes_fail(rt: HostRuntime) {
+    assert!(rt; holds(&rt, some_writes_fail));
 }

@@ -1,18 +1,18 @@
 //! Tests of the paths at which a merge reads trees, by a backend that fails at any other path.
-use crate::building::{ascending_tree, component, path, plain_file, tree_merge_of};
+use crate::building::{ascending_tree, component, path, plain_file, sides_of};
 use jj_backend::backend::{
     Backend, BackendError, BackendResult, ChangeId, Commit, CommitId, CopyHistory, CopyId,
     CopyRecord, FileId, RelatedCopy, SigningFn, SymlinkId, Tree, TreeId, TreeValue,
 };
+use jj_content_tests::retry::holds;
 use jj_merges::conflict_labels::ConflictLabels;
-use jj_merges::merge::SameChange;
+use jj_merges::merge::{Merge, SameChange};
 use jj_paths::repo_path::{RepoPath, RepoPathBuf};
 use jj_trees::memory_backend::MemoryBackend;
 use jj_trees::tree_merge::{TreeMerge, merge_trees};
 use std::alloc::Global;
 use std::cell::Cell;
 use std::process::Abort;
-use std::test::Fail;
 
 // Reads each tree only at the path at which it is stored, and counts the reads of trees. All other
 // reads and writes fail.
@@ -190,22 +190,18 @@ fn store_file(alloc: Global, backend: &mut PathBackend, byte: u8) -> BackendResu
     store(alloc, backend, "", "d", TreeValue::Tree(d))
 }
 
-// Merges three trees that differ in one nested file. Returns the number of reads too.
-fn merge_nested(alloc: Global) -> BackendResult<(TreeMerge, u32)> {
-    let mut backend = PathBackend {
-        inner: MemoryBackend::new(alloc)?,
-        paths: Vec::new(alloc),
-        reads: Cell::new(0),
-    };
-    let left = store_file(alloc, &mut backend, b'1')?;
-    let base = store_file(alloc, &mut backend, b'0')?;
-    let right = store_file(alloc, &mut backend, b'2')?;
-    let mut changes = Vec::new(alloc);
-    changes.push((base, right))?;
-    let roots = tree_merge_of(alloc, left, changes)?;
+// Stores three trees that differ in one nested file, and returns their merge.
+fn store_sides(alloc: Global, backend: &mut PathBackend) -> BackendResult<Merge<TreeId>> {
+    let left = store_file(alloc, backend, b'1')?;
+    let base = store_file(alloc, backend, b'0')?;
+    let right = store_file(alloc, backend, b'2')?;
+    Ok(sides_of(alloc, left, base, right)?)
+}
+
+fn merge_nested(alloc: Global, backend: &mut PathBackend) -> BackendResult<TreeMerge> {
+    let roots = store_sides(alloc, backend)?;
     let labels = ConflictLabels::unlabeled(alloc);
-    let merge = merge_trees(alloc, &backend, &roots, &labels, SameChange::Accept)?;
-    Ok((merge, backend.reads.get()))
+    merge_trees(alloc, backend, &roots, &labels, SameChange::Accept)
 }
 
 fn has_conflict_at(merge: &TreeMerge, expected: &str) -> bool {
@@ -215,14 +211,22 @@ fn has_conflict_at(merge: &TreeMerge, expected: &str) -> bool {
     }
 }
 
+fn new_backend(alloc: Global) -> BackendResult<PathBackend> {
+    Ok(PathBackend {
+        inner: MemoryBackend::new(alloc)?,
+        paths: Vec::new(alloc),
+        reads: Cell::new(0),
+    })
+}
+
 // Each of the three merged directories is read once for each of the three terms.
+fn reads_at_paths(alloc: Global) -> BackendResult<bool> {
+    let mut backend = new_backend(alloc)?;
+    let is_merged = has_conflict_at(&merge_nested(alloc, &mut backend)?, "d/e/x");
+    Ok(is_merged && backend.reads.get() == 9)
+}
+
 #[test]
-fn trees_are_read_at_their_paths(rt: HostRuntime) -> Result<(), Fail> {
-    let (merge, reads) = match merge_nested(rt.alloc()) {
-        Err(BackendError::Memory) => merge_nested(rt.alloc())?,
-        merge => merge?,
-    };
-    assert!(rt; has_conflict_at(&merge, "d/e/x"));
-    assert_eq!(rt; reads, 9);
-    Ok(())
+fn trees_are_read_at_their_paths(rt: HostRuntime) {
+    assert!(rt; holds(&rt, reads_at_paths));
 }

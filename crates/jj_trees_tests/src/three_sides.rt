@@ -1,13 +1,13 @@
 //! A three-way merge of a directory of files: its description, and its conflicts written back as
 //! trees.
-ghost use Rattle.std.specs.Prelude.{◌≡◌, ◌↔◌, ℕ, List, AllPairs, Contains, IfOk};
+ghost use Rattle.std.specs.Prelude.{◌≡◌, ◌↔◌, ℕ, List, Option, AllPairs, Contains, IfOk};
 ghost use Rattle.jj_merges.specs.declared.merge.SameChange.TheVariants.{Accept};
 ghost use Rattle.jj_backend.specs.declared.backend.tree_value.TreeValue.{TreeValue};
-ghost use Rattle.jj_paths.specs.Paths.{Path, path_cmp};
+ghost use Rattle.jj_paths.specs.Paths.{Path};
 ghost use Rattle.jj_trees.specs.MemoryObjects.{objects_of};
-ghost use Rattle.jj_trees.specs.TreeMerges.{IsConflict, IsResolved, Values, root_values};
+ghost use Rattle.jj_trees.specs.TreeMerges.{IsConflict, IsResolved, root_values};
 
-use crate::building::{ascending_tree, bad_data, component, plain_file, tree_merge_of};
+use crate::building::{ascending_tree, bad_data, component, plain_file, sides_of};
 use crate::callers::merge_in_memory;
 use jj_backend::backend::{
     Backend, BackendResult, MergedTreeValue, MergedTreeValueExt, TreeId, TreeValue,
@@ -19,18 +19,6 @@ use jj_trees::memory_backend::MemoryBackend;
 use jj_trees::tree_merge::TreeMerge;
 use std::alloc::{AllocError, Global};
 use std::cmp::Ordering;
-
-/// Creates the merge of two sides and their base.
-pub fn sides_of(
-    alloc: Global,
-    left: TreeId,
-    base: TreeId,
-    right: TreeId,
-) -> BackendResult<Merge<TreeId>> {
-    let mut changes = Vec::new(alloc);
-    changes.push((base, right))?;
-    tree_merge_of(alloc, left, changes)
-}
 
 /// Writes a file and returns its entry.
 pub fn write_entry(
@@ -70,13 +58,13 @@ pub fn merge_labelled(
         ↔ IsResolved (objects_of backend.now).trees ⟦<Option<TreeValue> as PartialEq>⟧.eq Accept
         (root_values sides.now) path value) }
     ensures conflicts { IfOk result (λ m.
-        (path : Path) (terms : Values) (term_labels : List (List ℕ)) →
+        (path : Path) (terms : List (Option TreeValue)) (term_labels : List (List ℕ)) →
         Contains m.conflicts.items (path, terms, term_labels)
         ↔ IsConflict (objects_of backend.now).trees ⟦<Option<TreeValue> as PartialEq>⟧.eq Accept
         (root_values sides.now) labels.now path terms term_labels) }
     ensures ascending { IfOk result (λ m.
-        AllPairs (λ a b. path_cmp a.0 b.0 ≡ Ordering.Less) m.resolved.items
-        × AllPairs (λ a b. path_cmp a.0 b.0 ≡ Ordering.Less) m.conflicts.items) }
+        AllPairs (λ a b. ⟦<RepoPathBuf as Ord>⟧.cmp a.0 b.0 ≡ Ordering.Less) m.resolved.items
+        × AllPairs (λ a b. ⟦<RepoPathBuf as Ord>⟧.cmp a.0 b.0 ≡ Ordering.Less) m.conflicts.items) }
 {
     if labels.as_slice().len() != sides.as_slice().len() {
         return Err(bad_data(alloc, "a side has no label"));
@@ -192,5 +180,5 @@ pub fn write_back(
     let left = write_side(alloc, backend, merge, 0)?;
     let base = write_side(alloc, backend, merge, 1)?;
     let right = write_side(alloc, backend, merge, 2)?;
-    sides_of(alloc, left, base, right)
+    Ok(sides_of(alloc, left, base, right)?)
 }

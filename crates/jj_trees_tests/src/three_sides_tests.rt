@@ -1,12 +1,12 @@
 //! Test of the three-way merge of `three_sides`: its description, also after it is written back.
-use crate::three_sides::{describe, merge_labelled, sides_of, write_back, write_files};
-use jj_backend::backend::{BackendError, BackendResult, TreeId};
+use crate::building::sides_of;
+use crate::three_sides::{describe, merge_labelled, write_back, write_files};
+use jj_backend::backend::{BackendResult, TreeId};
 use jj_content_tests::retry::holds;
 use jj_merges::conflict_labels::ConflictLabels;
 use jj_merges::merge::Merge;
 use jj_trees::memory_backend::MemoryBackend;
-use smallvec::SmallVec;
-use std::alloc::Global;
+use std::alloc::{AllocError, Global};
 use std::process::Abort;
 
 // The left side changes the first two files.
@@ -30,7 +30,7 @@ fn write_sides(alloc: Global, backend: &mut MemoryBackend) -> BackendResult<Merg
     let left = write_files(alloc, backend, LEFT)?;
     let base = write_files(alloc, backend, BASE)?;
     let right = write_files(alloc, backend, RIGHT)?;
-    sides_of(alloc, left, base, right)
+    Ok(sides_of(alloc, left, base, right)?)
 }
 
 // Merges and writes the result back, or returns `None` for an unexpected description.
@@ -60,15 +60,11 @@ fn describes_twice(
     }
 }
 
-fn side_labels(alloc: Global) -> BackendResult<ConflictLabels> {
-    let mut labels = Vec::new(alloc);
-    for label in ["left", "base", "right"] {
-        labels.push(String::from_str(alloc, label)?)?;
-    }
-    if labels.len() % 2 != 1 {
-        return Err(BackendError::Memory);
-    }
-    Ok(ConflictLabels::from_vec(SmallVec::from_vec(labels)))
+fn side_labels(alloc: Global) -> Result<ConflictLabels, AllocError> {
+    let left = String::from_str(alloc, "left")?;
+    let base = String::from_str(alloc, "base")?;
+    let right = String::from_str(alloc, "right")?;
+    Ok(ConflictLabels::from_merge(sides_of(alloc, left, base, right)?))
 }
 
 fn example_describes_twice(alloc: Global) -> BackendResult<bool> {
