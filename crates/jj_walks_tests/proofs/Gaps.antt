@@ -21,8 +21,8 @@ use Rattle.jj_dag.proofs.Collecting.{are_nodes}
 use Rattle.jj_dag.proofs.Walking.{drained_are}
 use Rattle.jj_walks_tests.specs.declared.commits.Commit.{Commit}
 use Rattle.jj_walks_tests.specs.declared.commits.Parents.{Parents}
-use Rattle.jj_walks_tests.specs.declared.failing_callers.Gap.{Gap}
-use Rattle.jj_walks_tests.specs.declared.failing_callers.Gap.TheVariants.{Memory, Text}
+use Rattle.jj_walks_tests.specs.declared.commits.Gap.{Gap}
+use Rattle.jj_walks_tests.specs.declared.commits.Gap.TheVariants.{Memory, Text}
 use Rattle.jj_walks_tests.specs.Commits.{ids_of, commit_with, parents_in, parent_graph}
 use Rattle.jj_walks_tests.specs.Parents.{parents_left}
 use Rattle.jj_walks_tests.specs.Gaps.{has_ids, whole_graph, tells_gap, HasTextOf, IsGapIn}

@@ -19,12 +19,12 @@ use Rattle.jj_walks.specs.Expansions.{Expansion, ImplementsItems, IsRun, MayList
 use Rattle.jj_walks.proofs.Expanding.{at_first, first_or_rest, in_map, in_rest, numbered_back}
 use Rattle.jj_walks.proofs.DfsOkRuns.{answer_of, answered, error_cause, errors_given, given_once, items_given, reached, returned, start_errors_given, starts_given}
 use Rattle.jj_walks_tests.specs.declared.commits.Commit.{Commit}
-use Rattle.jj_walks_tests.specs.declared.missing.Lookups.{Lookups}
+use Rattle.jj_walks_tests.specs.declared.lookups.Lookups.{Lookups}
 use Rattle.jj_walks_tests.specs.Commits.{commit_with, has_commit, ids_of, known_ids, parents_in, parent_graph}
 use Rattle.jj_walks_tests.specs.Missing.{AreKnownAncestors, IsMissingFrom, found_ids, looked_up, lookups_left, or_missing}
 use Rattle.jj_walks_tests.specs.Parents.{shown_item}
 use Rattle.jj_walks_tests.specs.WalkItems.{yielded_item}
-use Rattle.jj_walks_tests.proofs.Lookups.{becomes, found_one, lacked_one, left, lookups_implemented, node_found, reached_ids, steps}
+use Rattle.jj_walks_tests.proofs.LookedUpCommits.{becomes, found_one, lacked_one, left, lookups_implemented, node_found, reached_ids, steps}
 use Rattle.jj_walks_tests.proofs.Numbering.{found_has, found_id, has_found, node, node_has, node_id, walk_closed, walk_of}
 use Rattle.jj_walks_tests.proofs.Sound.{known_are_nodes}
 

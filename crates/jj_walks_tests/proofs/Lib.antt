@@ -7,7 +7,7 @@ pub mod Grouping
 pub mod Ranks
 pub mod Newest
 pub mod Showing
-pub mod Lookups
+pub mod LookedUpCommits
 pub mod KnownAncestors
 pub mod ImplementedGraphs
 pub mod Children

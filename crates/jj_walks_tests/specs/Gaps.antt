@@ -3,8 +3,8 @@
 use Rattle.std.specs.Prelude.{◌≡◌, ◌&&◌, ℕ, Bool, true, false, cond, List, [], ◌∷◌, None, Some, is_some}
 use Rattle.std.specs.String.{string_bytes, string_eq}
 use Rattle.jj_walks_tests.specs.declared.commits.Commit.{Commit}
-use Rattle.jj_walks_tests.specs.declared.failing_callers.Gap.{Gap}
-use Rattle.jj_walks_tests.specs.declared.failing_callers.Gap.TheVariants.{Memory, Text}
+use Rattle.jj_walks_tests.specs.declared.commits.Gap.{Gap}
+use Rattle.jj_walks_tests.specs.declared.commits.Gap.TheVariants.{Memory, Text}
 use Rattle.jj_dag.specs.Graph.{Graph}
 use Rattle.jj_walks_tests.specs.Commits.{ids_of, commit_with, parents_in, has_commit}
 

@@ -7,7 +7,7 @@ use denote.Ref.{Bor}
 use Rattle.jj_dag.specs.FallibleGraphs.{ok_items}
 use Rattle.jj_dag.specs.Graph.{ReachedFrom}
 use Rattle.jj_walks_tests.specs.declared.commits.Commit.{Commit}
-use Rattle.jj_walks_tests.specs.declared.missing.Lookups.{Lookups}
+use Rattle.jj_walks_tests.specs.declared.lookups.Lookups.{Lookups}
 use Rattle.jj_walks_tests.specs.Commits.{commit_with, has_commit, known_ids, parent_graph}
 
 -- the commit that was found, or the id

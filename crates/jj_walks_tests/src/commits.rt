@@ -13,6 +13,14 @@ pub struct Commit {
     pub text: String,
 }
 
+/// An error of listing the parents of a commit.
+#[derive(Debug, Drop)]
+pub enum Gap {
+    Memory,
+    /// The description of a commit with a parent that is not in the list.
+    Text(String),
+}
+
 /// The first commit of the list that has this id.
 pub fn commit_of(commits: &[Commit], id: u64) -> Option<&Commit>
     ensures { MatchOption result (commit_with commits.now id ≡ None)

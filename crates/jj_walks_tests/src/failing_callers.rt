@@ -6,19 +6,11 @@ ghost use Rattle.jj_dag.specs.Graph.{IsAcyclicFrom, AreMaximalElements};
 ghost use Rattle.jj_walks_tests.specs.Commits.{ids_of};
 ghost use Rattle.jj_walks_tests.specs.Gaps.{has_ids, tells_gap, whole_graph, IsGapIn};
 
-use crate::commits::{Commit, Parents, commit_of, parents_of};
+use crate::commits::{Commit, Gap, Parents, commit_of, parents_of};
 use jj_walks::dag_walk::WalkError;
 use jj_walks::dag_walk_async::heads;
 use std::alloc::Global;
 use std::collections::HashSet;
-
-/// An error of listing the parents of a commit.
-#[derive(Debug, Drop)]
-pub enum Gap {
-    Memory,
-    /// The description of a commit with a parent that is not in the list.
-    Text(String),
-}
 
 // Returns whether the list has a commit of each of these ids.
 fn has_all(commits: &[Commit], ids: &[u64]) -> bool

@@ -14,9 +14,12 @@ mod chunks;
 #[cfg(test)]
 mod closest_common_tests;
 pub mod commits;
+#[cfg(test)]
 pub mod failing_callers;
 #[cfg(test)]
 pub mod large;
+pub mod lookups;
+#[cfg(test)]
 pub mod missing;
 #[cfg(test)]
 mod outcomes;
@@ -26,4 +29,5 @@ mod shown;
 mod texts;
 #[cfg(test)]
 mod walk_errors;
+#[cfg(test)]
 pub mod walk_items;

@@ -7,7 +7,7 @@ use Rattle.jj_walks_tests.specs.Commits.{known_ids, parent_graph}
 use Rattle.jj_walks_tests.specs.Missing.{IsMissingFrom}
 use Rattle.jj_walks_tests.proofs.Numbering.{walk_of}
 use Rattle.jj_walks_tests.proofs.Sound.{known_are_nodes}
-use Rattle.jj_walks_tests.proofs.Lookups.{cycle_known, drained_known, lookups_implemented, parent_missing, postorder_known, start_missing}
+use Rattle.jj_walks_tests.proofs.LookedUpCommits.{cycle_known, drained_known, lookups_implemented, parent_missing, postorder_known, start_missing}
 use Rattle.jj_walks_tests.proofs.missing.ancestors_first.Goals as goal
 
 pub topo_order_forward_ok-requires-clause-graph : goal.topo_order_forward_ok-requires-clause-graph

@@ -5,7 +5,7 @@ use Rattle.jj_dag.proofs.Walkable.{walkable_by}
 use Rattle.jj_walks_tests.specs.Missing.{IsMissingFrom}
 use Rattle.jj_walks_tests.proofs.Numbering.{walk_of, walk_stands}
 use Rattle.jj_walks_tests.proofs.Sound.{known_are_nodes}
-use Rattle.jj_walks_tests.proofs.Lookups.{drained_known, lookups_implemented, maximal_known, parent_missing, start_missing}
+use Rattle.jj_walks_tests.proofs.LookedUpCommits.{drained_known, lookups_implemented, maximal_known, parent_missing, start_missing}
 use Rattle.jj_walks_tests.proofs.missing.tips_of.Goals as goal
 
 pub heads_ok-requires-clause-graph : goal.heads_ok-requires-clause-graph

@@ -22,7 +22,7 @@ use Rattle.jj_dag.proofs.Postorders.{from_reverse, Postorder-reached}
 use Rattle.jj_dag.proofs.Relabelled.{Contains-map}
 use Rattle.jj_dag.proofs.Walking.{drained_are}
 use Rattle.jj_walks_tests.specs.declared.commits.Commit.{Commit}
-use Rattle.jj_walks_tests.specs.declared.missing.Lookups.{Lookups}
+use Rattle.jj_walks_tests.specs.declared.lookups.Lookups.{Lookups}
 use Rattle.jj_walks_tests.specs.Commits.{commit_with, has_commit, known_ids, parent_graph}
 use Rattle.jj_walks_tests.specs.Missing.{IsMissingFrom, looked_up, lookups_left, or_missing}
 use Rattle.jj_walks_tests.specs.Parents.{shown_item}
