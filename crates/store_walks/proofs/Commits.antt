@@ -23,10 +23,12 @@ use Rattle.jj_backend.specs.Records.{CommitValue, commit_eq}
 use Rattle.jj_backend.specs.declared.backend.errors.BackendError.{BackendError}
 use Rattle.jj_dag.specs.ClosureGraph.{Implements, MayReturn, ReturnsId, YieldsOk}
 use Rattle.jj_dag.specs.CommonNodes.{AreClosestCommon, HasNoCommonCycle}
+use Rattle.jj_dag.specs.FallibleGraphs.{BeginsWith}
 use Rattle.jj_dag.specs.Graph.{Graph, IsAcyclicFrom, IsTopologicalOrder, ReachedFrom}
 use Rattle.jj_dag.specs.NodeGraph.{AreMaximalNodes, HasNoCommonNodeCycle, IsChildFirstOrder, IsCommonNode, ReachesNoCycle, ReachesNode}
 use Rattle.jj_dag.specs.Walk.{DrainsTo, Model}
 use Rattle.jj_dag.proofs.ClosureGraphs.{may_return_says}
+use Rattle.jj_dag.proofs.FailingWalks.{begun_are}
 use Rattle.jj_dag.proofs.ListNumbers.{list_of_number, list_of_number-number, number, number-not_zero}
 use Rattle.jj_dag.proofs.NodeGraphs.{Contains-from_map, child_first_nodes, closest_nodes, no_common_cycle_up, no_cycle_back, numbers_graph, one_node, reached_down, reaches_more}
 use Rattle.jj_dag.proofs.Walking.{drained_are}
@@ -60,6 +62,12 @@ becomes v it = (into_iter_items it ≡ v.items) × (into_iter_len it ≡ v.len)
 
 pub vec_drained : {X : Type 0} (v : Vec X Global) (xs : List X) → DrainsTo becomes into_iter_steps v xs → xs ≡ v.items
 vec_drained v xs d = sym (map-id xs) ∙ drained_are becomes into_iter_steps v xs (λ y. y) v.items (λ it b. YieldsList-from_vec {s = it} v.items b.0 (b.1 ∙ v.ok.0)) d
+
+-- and a part of a run yields the first of them
+pub vec_begun : {X : Type 0} (v : Vec X Global) (xs : List X) → BeginsWith becomes into_iter_steps v xs → (rest : List X) × (v.items ≡ xs ++ rest)
+vec_begun v xs d =
+    let begun = begun_are becomes into_iter_steps v xs (λ y. y) v.items (λ it b. YieldsList-from_vec {s = it} v.items b.0 (b.1 ∙ v.ok.0)) d in
+    (begun.0, begun.1 ∙ ap (λ l. l ++ begun.0) (map-id xs))
 
 module _ (may_fail : BackendError → Type 0) (store : Objects) where
   -- ---- nodes that are ids

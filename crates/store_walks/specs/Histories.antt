@@ -1,8 +1,9 @@
 -- The history of a store: its commits, with an edge from each to its parents.
 -- Cited by contracts of public items: AreFoundAncestors, AreHeadCommits, AreMergeBases,
--- IsErrorBelow, IsHistoryError, IsHistoryOrder, IsReadErrorBelow.
-use Rattle.std.specs.Prelude.{◌≡◌, ◌≢◌, ◌⊎◌, ℕ, List, All, AllPairs, Result, Some, map}
+-- IsErrorBelow, IsGroupedHistory, IsHistoryError, IsHistoryOrder, IsReadErrorBelow.
+use Rattle.std.specs.Prelude.{◌≡◌, ◌≢◌, ◌⊎◌, ℕ, List, All, AllPairs, None, Result, Some, map}
 use Rattle.std.specs.List.{Contains}
+use Rattle.std.specs.Str.{bytes_eq}
 use Rattle.std.specs.declared.result.Result.TheVariants.{Ok, Err}
 use Rattle.jj_backend.specs.Objects.{Objects}
 use Rattle.jj_backend.specs.Records.{CommitValue}
@@ -10,6 +11,8 @@ use Rattle.jj_backend.specs.declared.backend.errors.BackendError.{BackendError}
 use Rattle.jj_backend.specs.declared.backend.errors.BackendError.TheVariants.{Memory}
 use Rattle.jj_dag.specs.FallibleGraphs.{ok_items}
 use Rattle.jj_dag.specs.NodeGraph.{AreMaximalNodes, HasNoCommonNodeCycle, IsChildFirstOrder, IsCommonNode, NodeGraph, ReachesNoCycle, ReachesNode, ReachesSomeCycle}
+use Rattle.jj_walks.specs.GroupedOrders.{IsGroupedOrder}
+use Rattle.store_walks.specs.Logs.{log_nodes}
 use Rattle.store_walks.specs.ReadCommits.{IsReadError, IsReadFailure, IsStored, id_of}
 use Rattle.store_walks.specs.declared.read_commit.ReadCommit.{ReadCommit}
 use Rattle.store_walks.specs.declared.order.HistoryError.{HistoryError}
@@ -46,6 +49,12 @@ module _ (store : Objects) where
   abbrev pub IsHistoryOrder : List (List ℕ) → List ReadCommit → Type 0
   IsHistoryOrder ids order = InEachHistory (λ parents. ReachesNoCycle parents ids
       × IsChildFirstOrder parents ids (map id_of order) × All (IsStored store) order)
+
+  -- such an order with branches together: each commit is followed by the last of its parents
+  -- whose children all came before, if one is
+  abbrev pub IsGroupedHistory : List (List ℕ) → List ReadCommit → Type 0
+  IsGroupedHistory ids order = IsHistoryOrder ids order
+      × IsGroupedOrder bytes_eq (log_nodes order) None (log_nodes order)
 
   -- `read_commit` may return this error for an ancestor of the ids
   pub record IsReadErrorBelow (may_fail : BackendError → Type 0) (ids : List (List ℕ))

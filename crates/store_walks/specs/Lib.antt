@@ -1,4 +1,5 @@
 pub mod ReadCommits
 pub mod ReadResults
+pub mod Logs
 pub mod Histories
 pub mod HistoryItems

@@ -1,0 +1,112 @@
+//! The ancestors of some commits in topological order, branch by branch.
+ghost use Rattle.std.specs.Prelude.{◌≡◌, ◌⊎◌, IfErr, IfOk, None, map};
+ghost use Rattle.std.specs.Str.{bytes_eq};
+ghost use Rattle.jj_dag.specs.Outcomes.{IfFails};
+ghost use Rattle.jj_walks.specs.GroupedOrders.{IsGroupedOrder, IsWhole};
+ghost use Rattle.jj_walks.specs.GroupedSteps.{CanRead};
+ghost use Rattle.jj_walks.specs.declared.grouped.GroupedGraphError.TheVariants.{Memory};
+ghost use Rattle.store_walks.specs.Histories.{IsGroupedHistory, IsHistoryError};
+ghost use Rattle.store_walks.specs.Logs.{AreLogItems, StopsWith, YieldsNodes, edges_to, log_nodes};
+
+use crate::order::{HistoryError, history_order};
+use crate::read_commit::ReadCommit;
+use jj_backend::backend::{Backend, CommitId};
+use jj_dag::walk_error::WalkError;
+use jj_walks::graph::{GraphEdge, GraphNode, GroupedGraphError, GroupedNodes, TopoGroupedGraph};
+use std::alloc::{AllocError, Global};
+use std::hash::Hash;
+
+// Returns direct edges to these ids.
+fn edges_to(alloc: Global, ids: &[CommitId]) -> Result<Vec<GraphEdge<CommitId>>, AllocError>
+    ensures { IfOk result (λ edges. edges.items ≡ edges_to ids.now) }
+{
+    let mut edges = Vec::new(alloc);
+    for id in ids {
+        edges.push(GraphEdge::direct(id.clone()?))?;
+    }
+    Ok(edges)
+}
+
+fn edges_of(alloc: Global, commit: &ReadCommit) -> Result<Vec<GraphEdge<CommitId>>, AllocError>
+    ensures { IfOk result (λ edges. edges.items ≡ edges_to commit.now.commit.parents) }
+{
+    edges_to(alloc, &commit.commit.parents)
+}
+
+// Returns the commits with edges to their parents, as items of which none fails.
+fn log_items(
+    alloc: Global,
+    commits: Vec<ReadCommit>,
+) -> Result<Vec<Result<GraphNode<ReadCommit, CommitId>, HistoryError>>, AllocError>
+    ensures { IfOk result (λ items. AreLogItems commits.items items.items) }
+{
+    let mut items = Vec::new(alloc);
+    for commit in commits {
+        let edges = edges_of(alloc, &commit)?;
+        items.push(Ok((commit, edges)))?;
+    }
+    Ok(items)
+}
+
+fn commit_id(commit: &ReadCommit) -> &CommitId
+    ensures { result.now ≡ commit.now.id }
+{
+    &commit.id
+}
+
+// Collects the nodes of a grouped graph.
+fn collect_nodes<N: Drop, ID: Hash + Eq + Clone + Drop, E: Drop, S, F>(
+    alloc: Global,
+    nodes: GroupedNodes<N, ID, S, F>,
+) -> Result<Vec<N>, GroupedGraphError<E>>
+where
+    S: Iterator<Item = Result<GraphNode<N, ID>, E>> + Drop,
+    F: Fn(&N) -> &ID + Drop,
+    requires { CanRead F.Fn ID.eq ID.is_clone S.can_next S.remaining nodes.graph }
+    ensures nodes { IfOk result (λ found.
+        YieldsNodes F.Fn ID.eq S.next_gives nodes found.items) }
+    ensures error { IfErr result (λ error. (error ≡ Memory)
+        ⊎ StopsWith F.Fn ID.eq S.next_gives nodes error) }
+{
+    let mut found = Vec::new(alloc);
+    for item in nodes {
+        match item {
+            Ok((node, _edges)) => found.push(node)?,
+            Err(error) => return Err(error),
+        }
+    }
+    Ok(found)
+}
+
+// Groups commits in topological order by branches. Fails if memory runs out.
+fn group(alloc: Global, commits: Vec<ReadCommit>) -> Result<Vec<ReadCommit>, AllocError>
+    requires child_first { IsWhole bytes_eq (log_nodes commits.items) }
+    ensures { IfOk result (λ order. IsGroupedOrder bytes_eq (log_nodes commits.items) None
+        (log_nodes order.items)) }
+{
+    let items = log_items(alloc, commits)?;
+    let graph = TopoGroupedGraph::new(alloc, items.into_iter(), commit_id);
+    match collect_nodes(alloc, graph.stream()) {
+        Ok(order) => Ok(order),
+        Err(error) => {
+            prove!(matches!(&error, GroupedGraphError::Memory));
+            Err(AllocError)
+        }
+    }
+}
+
+/// Returns the ancestors of `ids`, each once and before its own ancestors, and branches together:
+/// a commit is followed by the last of its parents whose children all came before, if one is.
+pub fn grouped_history<B: Backend>(
+    alloc: Global,
+    store: &B,
+    ids: &[CommitId],
+) -> Result<Vec<ReadCommit>, WalkError<HistoryError>>
+    ensures order { IfOk result (λ order.
+        IsGroupedHistory (B.objects store.now) ids.now order.items) }
+    ensures error { IfFails result (IsHistoryError (B.objects store.now) (B.may_fail store.now)
+        ids.now) }
+{
+    let commits = history_order(alloc, store, ids)?;
+    Ok(group(alloc, commits)?)
+}
