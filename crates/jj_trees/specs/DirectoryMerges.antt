@@ -59,7 +59,7 @@ module _ (eq : Option TreeValue → Option TreeValue → Bool) (same_change : Sa
       → (old_resolved new_resolved : List (Path × TreeValue))
       → (old_conflicts new_conflicts : List (Path × Conflict)) → Type 0
   AppendsOutcome values labels path old_resolved new_resolved old_conflicts new_conflicts =
-      (MustRecurse eq same_change values → ⊥)
+      (MustRecurse values → ⊥)
       × (((v : TreeValue) × ResolvesTo eq same_change values (Some v)
       × (new_resolved ≡ old_resolved ++ (path, v) ∷ []) × (new_conflicts ≡ old_conflicts))
       ⊎ (ResolvesTo eq same_change values None

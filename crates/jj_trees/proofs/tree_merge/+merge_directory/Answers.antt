@@ -9,7 +9,7 @@ use Rattle.jj_trees.specs.declared.tree_merge.rows.Row.{Row}
 use Rattle.jj_backend.specs.MergedTreeValues.{Values}
 use Rattle.jj_trees.specs.DirectoryMerges.{IsReadAt, FailsAt, conflict_entries}
 use Rattle.jj_backend.specs.contracts.backend.tree_value.TreeValuePartialEq.TheImpl as tree_values
-use Rattle.jj_trees.proofs.Merging.{same_values, passed_none, error_here}
+use Rattle.jj_trees.proofs.Merging.{same_values, passed_none, error_here, error_too_deep}
 use Rattle.jj_trees.proofs.Passing.{rows_start, rows_next, next_row, row_length, same_sides}
 use Rattle.jj_trees.proofs.Rounds.{rows_passed, row_here, row_entered, row_error, rows_ended, no_row, all_rows}
 use Rattle.jj_trees.proofs.tree_merge.+merge_directory.Goals as goal
@@ -49,6 +49,13 @@ merge_directory-requires g t c =
     ∙ row_length (g.B.Backend.objects c.args.backend.now).trees parts c.args.values.now c.loop-row.yielded c.in-Some.row (into_iter_items c.next.new.self)
     (rows_next parts _ c.loop-row.yielded _ _ next c.loop-row.invariant.rows) in
     λ κs outlives. (omega arith, (outlives, (subst IsOdd (sym same) c.requires.odd, same_sides _ _ _ same c.requires.sides)))
+
+pub returns-then-levels-eq0-clause-error : goal.returns-then-levels-eq0-clause-error
+returns-then-levels-eq0-clause-error g t c =
+    error_too_deep (option_eq tree_values.eq-value.it) same_values (g.B.Backend.objects c.args.backend.now).trees c.args.same_change c.args.labels.now
+    (IsReadAt (g.B.Backend.objects c.args.backend.now).trees (g.B.Backend.may_read_tree c.args.backend.now))
+    (FailsAt (g.B.Backend.objects c.args.backend.now).trees (g.B.Backend.may_read_tree c.args.backend.now) (g.B.Backend.may_fail c.args.backend.now))
+    c.args.levels c.args.values.now (path_of c.args.dir) c.args.levels _ (omega arith) c.too_deep_error.ensures
 
 pub returns-in_err-trees-clause-error : goal.returns-in_err-trees-clause-error
 returns-in_err-trees-clause-error g t c =
