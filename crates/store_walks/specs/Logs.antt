@@ -6,7 +6,7 @@ use Rattle.std.specs.Iterator.{Drains, Yields}
 use Rattle.std.specs.declared.result.Result.TheVariants.{Ok, Err}
 use denote.Ref.{Bor}
 use Rattle.jj_walks.specs.Grouped.{Entry}
-use Rattle.jj_walks.specs.GroupedSteps.{GivesOn, Item}
+use Rattle.jj_walks.specs.GroupedSteps.{Steps, Item}
 use Rattle.jj_walks.specs.PendingNodes.{listed_item}
 use Rattle.jj_walks.specs.declared.graph.GraphEdge.{GraphEdge}
 use Rattle.jj_walks.specs.declared.graph.GraphEdgeType.TheVariants.{Direct}
@@ -40,9 +40,9 @@ module _ {N ID S E F : Type 0} (ids : Shared F (Bor N × Unit {0}) (Bor ID))
   -- the iterator yields these nodes and ends
   abbrev pub YieldsNodes : List N → Type 0
   YieldsNodes found = (items : List (Item N ID)) × (map (λ x. x.0) items ≡ found)
-      × Drains (GivesOn ids eq steps) nodes (map (λ x. Ok x) items)
+      × Drains (Steps ids eq steps) nodes (map (λ x. Ok x) items)
 
   -- the iterator yields some nodes, and then this error
   abbrev pub StopsWith : GroupedGraphError E → Type 0
   StopsWith error = (items : List (Item N ID)) × (t : GroupedNodes N ID S F)
-      × Yields (GivesOn ids eq steps) nodes (map (λ x. Ok x) items ++ Err error ∷ []) t
+      × Yields (Steps ids eq steps) nodes (map (λ x. Ok x) items ++ Err error ∷ []) t

@@ -1,7 +1,7 @@
 use Rattle.std.proofs.Common.{rules, of_calls, ◌≡◌, ◌++◌, ◌∷◌, [], Ok, Err, inr, map, refl, sym, ap, ◌∙◌}
 use Rattle.std.proofs.lemmas.List.{map-append}
 use Rattle.jj_dag.proofs.FailingOrders.{Yields-push}
-use Rattle.jj_walks.specs.GroupedSteps.{GivesOn, Item}
+use Rattle.jj_walks.specs.GroupedSteps.{Steps, Item}
 use Rattle.store_walks.proofs.grouped.collect_nodes.Goals as goal
 
 pub loop-item-init : goal.loop-item-init
@@ -25,7 +25,7 @@ loop-item-preserved g c =
 
 pub returns-in-Err-clause-error : goal.returns-in-Err-clause-error
 returns-in-Err-clause-error g c =
-    let steps = GivesOn g.F.Fn g.ID.PartialEq.eq g.S.Iterator.next_gives in
+    let steps = Steps g.F.Fn g.ID.PartialEq.eq g.S.Iterator.next_gives in
     let source : c.into_iter-item-iterator.result ≡ c.args.nodes = c.into_iter-item-iterator.ensures.into_iter_gives in
     let (items, yielded, found) = c.loop-item.invariant.items in
     let run = rw (source, yielded) at c.loop-item.yielded_by in

@@ -15,7 +15,7 @@ returns-in-Ok c =
       has_ended = c.stream.ensures.has_ended;
       same_as_id = ap (λ s. s.as_id) graph ∙ c.new-graph.ensures.as_id;
       same_input = ap (λ s. s.input) graph ∙ c.new-graph.ensures.input;
-      keeps = subst (λ s. Keeps bytes_eq [] s.held) (sym graph) c.new-graph.ensures.held;
+      keeps = subst (λ s. Keeps bytes_eq [] s.pending) (sym graph) c.new-graph.ensures.pending;
     })
     c.args.commits.items c.in_ok-items.items.items c.in_ok-items.ensures (λ xs run. vec_drained c.in_ok-items.items xs (c.into_iter.result, (search rules, search rules), run)) c.requires.child_first c.in-Ok.order.items
     c.in-Ok.ensures.nodes
@@ -28,7 +28,7 @@ prove-unreachable-requires c =
       has_ended = c.stream.ensures.has_ended;
       same_as_id = ap (λ s. s.as_id) graph ∙ c.new-graph.ensures.as_id;
       same_input = ap (λ s. s.input) graph ∙ c.new-graph.ensures.input;
-      keeps = subst (λ s. Keeps bytes_eq [] s.held) (sym graph) c.new-graph.ensures.held;
+      keeps = subst (λ s. Keeps bytes_eq [] s.pending) (sym graph) c.new-graph.ensures.pending;
     })
     c.args.commits.items c.in_ok-items.items.items c.in_ok-items.ensures (λ xs run. vec_drained c.in_ok-items.items xs (c.into_iter.result, (search rules, search rules), run))
     (λ xs t run. vec_begun c.in_ok-items.items xs (c.into_iter.result, (search rules, search rules), (t, run))) c.requires.child_first c.in-Err.error) c.in-Err.ensures.error in
