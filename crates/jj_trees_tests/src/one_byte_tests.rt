@@ -21,7 +21,7 @@ impl OneByteIds {
         let contents = number.to_le_bytes();
         match self.backend.write_file(alloc, RepoPath::root(), &contents) {
             Ok(id) => self.files.push((id, number))?,
-            Err(BackendError::Other(_)) => self.failures = self.failures.saturating_add(1),
+            Err(BackendError::Other(_source)) => self.failures = self.failures.saturating_add(1),
             Err(error) => return Err(error),
         }
         Ok(())
