@@ -3,7 +3,7 @@ use Rattle.std.proofs.Common.{◌≡◌, ◌+◌, ◌<◌, ℕ, List, [], ◌∷
 use Rattle.std.specs.List.{count_by, position_or_len}
 use Rattle.std.proofs.lemmas.List.{get_or-map, length-map, take_more}
 use Rattle.std.proofs.lemmas.List.Sums.{sum_by-cons, sum_by_push}
-use Rattle.jj_program.specs.GraphCommand.{is_dash}
+use Rattle.jj_program.specs.Forms.{is_dash}
 
 -- if the count is one, the first index that passes is below the length
 pub counted_within : {X : Type 0} (p : X → Bool) (xs : List X) → count_by p xs ≡ 1 → position_or_len p xs < length xs

@@ -1,6 +1,7 @@
 pub mod Steps
 pub mod Requests
 pub mod FieldValues
+pub mod FormRows
 pub mod DecidedTerms
 pub mod TextMerges
 pub mod PairCounts

@@ -1,20 +1,21 @@
 -- The command `graph`: adjacency lists, and requests for the topological order, the heads or the
 -- closest common nodes of some ids.
 -- Cited by contracts of public items through LineFaults, Program.
-use Rattle.std.specs.Prelude.{◌≡◌, ◌⊎◌, ℕ, ◌==◌, Bool, List, [], ◌∷◌, ◌++◌, cond, codes, map, Option, Some, None, is_some, unwrap_or, Result, Ok, Err}
-use Rattle.std.specs.Str.{bytes_eq}
+use Rattle.std.specs.Prelude.{◌≡◌, ◌⊎◌, ℕ, ◌==◌, List, [], ◌∷◌, ◌++◌, cond, codes, map, Option, Some, None, is_some, unwrap_or, Result, Ok, Err}
 use Rattle.std.specs.Str.Parse.{digits_value}
 use Rattle.std.specs.Fmt.{decimal}
-use Rattle.std.specs.List.{after_first, before_first, count_by}
 use Rattle.std.specs.List.Sorted.{IsStrictlyIncreasing}
 use Rattle.jj_dag.specs.Graph.{Graph, StrictlyReaches, IsGreatestTopologicalOrder, AreMaximalElements}
 use Rattle.jj_dag.specs.CommonNodes.{AreClosestCommon}
 use Rattle.jj_program.specs.declared.fault.Fault.{Fault}
 use Rattle.jj_program.specs.declared.fault.LineFault.{LineFault}
-use Rattle.jj_program.specs.declared.fault.LineFault.TheVariants.{UnknownCommand, BadFieldCount, BadNumber, RepeatedNode}
+use Rattle.jj_program.specs.declared.fault.LineFault.TheVariants.{BadNumber, RepeatedNode}
+use Rattle.jj_program.specs.declared.graph_command.GraphForm.{GraphForm}
+use Rattle.jj_program.specs.declared.graph_command.GraphForm.TheVariants.{Node, Order as Order', Heads as Heads', Common as Common'}
+use Rattle.jj_program.specs.declared.graph_command.TheConstants.{GRAPH_FORMS}
 use Rattle.jj_program.specs.Numbers.{is_number}
-use Rattle.jj_program.specs.Lines.{line_text, lines_of, after_lines}
-use Rattle.jj_program.specs.Steps.{value_at, values_at}
+use Rattle.jj_program.specs.Forms.{Kind, line_of, table}
+use Rattle.jj_program.specs.Lines.{line_text, lines_of, after_lines, result_and_then}
 use Rattle.jj_program.specs.Requests.{AnswersEach}
 
 -- a request
@@ -38,13 +39,9 @@ pub record GraphState : Type 0 where
 abbrev pub graph_start : GraphState
 graph_start = record { listed = λ id. None; requests = [] }
 
--- parses an id
-abbrev pub number_at : List ℕ → Result ℕ LineFault
-number_at text = value_at is_number (digits_value 10) BadNumber text
-
--- parses ids
-abbrev pub numbers_of : List (List ℕ) → Result (List ℕ) LineFault
-numbers_of texts = values_at is_number (digits_value 10) BadNumber texts
+-- ids
+abbrev pub number_kind : Kind ℕ
+number_kind = record { is_one = is_number; value_of = digits_value 10; otherwise = BadNumber }
 
 -- adds an adjacency list
 abbrev pub listed_more : GraphState → ℕ → List ℕ → GraphState
@@ -54,53 +51,33 @@ listed_more state id neighbors = record {
   requests = state.requests;
 }
 
--- adds an adjacency list, unless the node has one
-abbrev pub with_node : GraphState → Result ℕ LineFault → Result (List ℕ) LineFault
-    → Result GraphState LineFault
-with_node state (Ok id) (Ok neighbors) = cond (is_some (state.listed id)) (Err RepeatedNode)
+-- adds the adjacency list of the first id, unless the node has one
+abbrev pub with_node : GraphState → List ℕ → Result GraphState LineFault
+with_node state [] = Ok state
+with_node state (id ∷ neighbors) = cond (is_some (state.listed id)) (Err RepeatedNode)
     (Ok (listed_more state id neighbors))
-with_node state (Ok id) (Err kind) = Err kind
-with_node state (Err kind) neighbors = Err kind
-
--- the line `node ID NEIGHBOR..`
-abbrev pub node_step : GraphState → List (List ℕ) → Result GraphState LineFault
-node_step state [] = Err BadFieldCount
-node_step state (id ∷ neighbors) = with_node state (number_at id) (numbers_of neighbors)
 
 -- appends a request
-abbrev pub with_request : GraphState → (List ℕ → GraphRequest) → Result (List ℕ) LineFault
+abbrev pub with_request : GraphState → GraphRequest → Result GraphState LineFault
+with_request state request =
+    Ok (record { listed = state.listed; requests = state.requests ++ request ∷ [] })
+
+-- the transition by an action
+abbrev pub graph_act : GraphState → GraphForm → (first second : List ℕ)
     → Result GraphState LineFault
-with_request state request (Ok ids) = Ok (record
-    { listed = state.listed; requests = state.requests ++ request ids ∷ [] })
-with_request state request (Err kind) = Err kind
+graph_act state Node first second = with_node state first
+graph_act state Order' first second = with_request state (Order first)
+graph_act state Heads' first second = with_request state (Heads first)
+graph_act state Common' first second = with_request state (Common first second)
 
--- the separator between two sets
-abbrev pub is_dash : List ℕ → Bool
-is_dash field = bytes_eq field (codes "-")
-
--- appends a request for closest common nodes
-abbrev pub with_common : GraphState → Result (List ℕ) LineFault → Result (List ℕ) LineFault
-    → Result GraphState LineFault
-with_common state (Ok set1) (Ok set2) = Ok
-    (record { listed = state.listed; requests = state.requests ++ Common set1 set2 ∷ [] })
-with_common state (Ok set1) (Err kind) = Err kind
-with_common state (Err kind) set2 = Err kind
-
--- the line `common ID.. - ID..`, with exactly one separator
-abbrev pub common_step : GraphState → List (List ℕ) → Result GraphState LineFault
-common_step state fields = cond (count_by is_dash fields == 1)
-    (with_common state (numbers_of (before_first is_dash fields))
-    (numbers_of (after_first is_dash fields))) (Err BadFieldCount)
+-- the action and the ids of a line
+abbrev pub graph_line : List (List ℕ) → Result (GraphForm × List ℕ × List ℕ) LineFault
+graph_line = line_of number_kind number_kind (table GRAPH_FORMS)
 
 -- the transition at a line
 abbrev pub graph_step : GraphState → List (List ℕ) → Result GraphState LineFault
-graph_step state [] = Err UnknownCommand
-graph_step state (name ∷ fields) =
-    cond (bytes_eq name (codes "node")) (node_step state fields)
-    (cond (bytes_eq name (codes "order")) (with_request state Order (numbers_of fields))
-    (cond (bytes_eq name (codes "heads")) (with_request state Heads (numbers_of fields))
-    (cond (bytes_eq name (codes "common")) (common_step state fields)
-    (Err UnknownCommand))))
+graph_step state fields =
+    result_and_then (graph_line fields) (λ line. graph_act state line.0 line.1 line.2)
 
 -- the state after a whole input, or its first fault
 abbrev pub graph_state : List ℕ → Result GraphState Fault

@@ -5,7 +5,7 @@ pub mod Lines
 pub mod Requests
 pub mod SetTrees
 pub mod SetParts
-pub mod FieldPairs
+pub mod Forms
 pub mod WalkCommand
 pub mod SetViews
 pub mod SetStacks
@@ -24,10 +24,12 @@ pub mod Numbering
 pub mod ListedGraphs
 pub mod GraphViews
 pub mod HashCommand
+pub mod HashViews
 pub mod Program
 pub mod Reports
 pub mod Laws
 pub mod FoundFiles
 pub mod FirstFaults
 pub mod LineFaults
+pub mod LineForms
 pub mod SoundIds

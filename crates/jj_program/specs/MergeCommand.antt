@@ -1,17 +1,17 @@
 -- The command `merge`: simplifies or resolves a merge of strings per line.
 -- Cited by contracts of public items through Program.
-use Rattle.std.specs.Prelude.{◌≡◌, ◌==◌, ◌%◌, ℕ, List, [], ◌∷◌, ◌++◌, cond, codes, length, Contains, Option, Some, None, Result, Ok, Err}
+use Rattle.std.specs.Prelude.{◌≡◌, ℕ, List, [], ◌∷◌, ◌++◌, codes, Contains, Option, Some, None, Result, Ok, Err}
 use Rattle.std.specs.Str.{bytes_eq}
 use Rattle.jj_merges.specs.declared.merge.SameChange.{SameChange}
-use Rattle.jj_merges.specs.declared.merge.SameChange.TheVariants.{Keep, Accept}
 use Rattle.jj_merges.specs.Resolution.{ResolvesTo}
 use Rattle.jj_merges.specs.Simplify.{simplified_indices, at_indices}
 use Rattle.jj_program.specs.declared.fault.Fault.{Fault}
 use Rattle.jj_program.specs.declared.fault.LineFault.{LineFault}
-use Rattle.jj_program.specs.declared.fault.LineFault.TheVariants.{UnknownCommand, BadFieldCount}
 use Rattle.jj_program.specs.declared.merge_command.Question.{Question}
 use Rattle.jj_program.specs.declared.merge_command.Question.TheVariants.{Simplify, Resolve}
-use Rattle.jj_program.specs.Lines.{line_text, lines_of, after_lines}
+use Rattle.jj_program.specs.declared.merge_command.TheConstants.{MERGE_FORMS}
+use Rattle.jj_program.specs.Forms.{form_line, table}
+use Rattle.jj_program.specs.Lines.{line_text, lines_of, after_lines, result_and_then}
 use Rattle.jj_program.specs.Requests.{AnswersEach}
 
 -- a requested operation and its merge, adds at even indices and removes at odd ones
@@ -19,25 +19,10 @@ pub record MergeRequest : Type 0 where
   pub question : Question
   pub terms : List (List ℕ)
 
--- the operation of a name
-abbrev pub question_named : List ℕ → Option Question
-question_named name =
-    cond (bytes_eq name (codes "simplify")) (Some Simplify)
-    (cond (bytes_eq name (codes "keep")) (Some (Resolve Keep))
-    (cond (bytes_eq name (codes "accept")) (Some (Resolve Accept))
-    None))
-
--- appends a request, whose terms must be odd in number
-abbrev pub request_step : List MergeRequest → Option Question → List (List ℕ)
-    → Result (List MergeRequest) LineFault
-request_step requests None terms = Err UnknownCommand
-request_step requests (Some question) terms = cond (length terms % 2 == 1)
-    (Ok (requests ++ record { question = question; terms = terms } ∷ [])) (Err BadFieldCount)
-
--- the transition at a line
+-- appends the request of a line
 abbrev pub merge_step : List MergeRequest → List (List ℕ) → Result (List MergeRequest) LineFault
-merge_step requests [] = Err UnknownCommand
-merge_step requests (name ∷ terms) = request_step requests (question_named name) terms
+merge_step requests fields = result_and_then (form_line (table MERGE_FORMS) fields)
+    (λ line. Ok (requests ++ record { question = line.0; terms = line.2 } ∷ []))
 
 -- the requests of an input, or its first fault
 abbrev pub merge_requests : List ℕ → Result (List MergeRequest) Fault

@@ -1,21 +1,23 @@
 -- The command `walk`: its input marks paths and builds one file set on a stack, in postfix
 -- notation. Cited by contracts of public items through FoundFiles, LineFaults, Walked.
-use Rattle.std.specs.Prelude.{ℕ, Bool, true, false, List, [], ◌∷◌, ◌++◌, cond, codes, length, is_ok, Result, Ok, Err}
-use Rattle.std.specs.Str.{bytes_eq}
+use Rattle.std.specs.Prelude.{ℕ, Bool, true, false, List, [], ◌∷◌, ◌++◌, length, is_ok, Result, Ok, Err}
 use Rattle.std.specs.List.{zip}
 use Rattle.jj_paths.specs.Paths.{Path, components, is_path_string}
 use Rattle.jj_globs.specs.GlobSyntax.{tokens_of}
 use Rattle.jj_globs.specs.GlobMeaning.{GlobSpec}
 use Rattle.jj_matchers.specs.Patterns.{Patterns}
 use Rattle.jj_program.specs.declared.file_set.Combination.{Combination}
-use Rattle.jj_program.specs.declared.file_set.Combination.TheVariants.{Union, Difference, Intersection}
 use Rattle.jj_program.specs.declared.fault.LineFault.{LineFault}
-use Rattle.jj_program.specs.declared.fault.LineFault.TheVariants.{UnknownCommand, BadFieldCount, BadPath, BadGlob, EmptyStack}
+use Rattle.jj_program.specs.declared.fault.LineFault.TheVariants.{BadPath, BadGlob, EmptyStack}
 use Rattle.jj_program.specs.declared.fault.Fault.{Fault}
 use Rattle.jj_program.specs.declared.fault.Fault.TheVariants.{Matchers}
-use Rattle.jj_program.specs.Lines.{lines_of, after_lines}
-use Rattle.jj_program.specs.Steps.{value_at, values_at}
-use Rattle.jj_program.specs.FieldPairs.{is_paired, firsts, seconds}
+use Rattle.jj_program.specs.declared.walk_command.SetWord.{SetWord}
+use Rattle.jj_program.specs.declared.walk_command.SetWord.TheVariants.{Everything as Everything', Nothing as Nothing', Files as Files', Prefix as Prefix', Globs as Globs', PrefixGlobs}
+use Rattle.jj_program.specs.declared.walk_command.WalkForm.{WalkForm}
+use Rattle.jj_program.specs.declared.walk_command.WalkForm.TheVariants.{Mark, Push, Combine}
+use Rattle.jj_program.specs.declared.walk_command.TheConstants.{WALK_FORMS}
+use Rattle.jj_program.specs.Forms.{Kind, line_of, table}
+use Rattle.jj_program.specs.Lines.{lines_of, after_lines, result_and_then}
 use Rattle.jj_program.specs.SetTrees.{SetTree, one, both}
 
 -- a set of files described by one line
@@ -35,33 +37,9 @@ pub record WalkState : Type 0 where
 abbrev pub walk_start : WalkState
 walk_start = record { marks = []; stack = [] }
 
--- marks a path
-abbrev pub with_mark : WalkState → Result Path LineFault → Result WalkState LineFault
-with_mark state (Ok path) = Ok (record { marks = state.marks ++ path ∷ []; stack = state.stack })
-with_mark state (Err kind) = Err kind
-
--- pushes a set
-abbrev pub with_set : WalkState → NamedSet → WalkState
-with_set state set = record { marks = state.marks; stack = one set ∷ state.stack }
-
--- parses a path
-abbrev pub path_at : List ℕ → Result Path LineFault
-path_at text = value_at is_path_string components BadPath text
-
--- parses paths
-abbrev pub paths_of : List (List ℕ) → Result (List Path) LineFault
-paths_of texts = values_at is_path_string components BadPath texts
-
--- pushes a set of paths
-abbrev pub with_paths : WalkState → (List Path → NamedSet) → Result (List Path) LineFault
-    → Result WalkState LineFault
-with_paths state set (Ok paths) = Ok (with_set state (set paths))
-with_paths state set (Err kind) = Err kind
-
--- pushes a set that has no fields
-abbrev pub with_set_alone : WalkState → NamedSet → List (List ℕ) → Result WalkState LineFault
-with_set_alone state set [] = Ok (with_set state set)
-with_set_alone state set (field ∷ fields) = Err BadFieldCount
+-- paths
+abbrev pub path_kind : Kind Path
+path_kind = record { is_one = is_path_string; value_of = components; otherwise = BadPath }
 
 -- the glob of a field; `*` does not match `/`
 abbrev pub glob_of : List ℕ → GlobSpec
@@ -70,32 +48,18 @@ glob_of text = record { text = text; options = record { separator = true; icase 
 unfoldable pub is_glob_text : List ℕ → Bool
 is_glob_text text = is_ok (tokens_of text)
 
--- parses globs
-abbrev pub globs_of : List (List ℕ) → Result (List GlobSpec) LineFault
-globs_of texts = values_at is_glob_text glob_of BadGlob texts
+abbrev pub glob_kind : Kind GlobSpec
+glob_kind = record { is_one = is_glob_text; value_of = glob_of; otherwise = BadGlob }
 
--- pushes a set of globs in directories; a bad path takes precedence over a bad glob
-abbrev pub with_globs : WalkState → Bool → Result (List Path) LineFault
-    → Result (List GlobSpec) LineFault → Result WalkState LineFault
-with_globs state prefix_paths (Ok dirs) (Ok globs) =
-    Ok (with_set state (Globs (record { prefix_paths = prefix_paths; patterns = zip dirs globs })))
-with_globs state prefix_paths (Ok dirs) (Err kind) = Err kind
-with_globs state prefix_paths (Err kind) globs = Err kind
-
--- splits alternating directories and globs
-abbrev pub paired_fields : List (List ℕ) → Result (List (List ℕ) × List (List ℕ)) LineFault
-paired_fields fields = cond (is_paired fields) (Ok (firsts fields, seconds fields))
-    (Err BadFieldCount)
-
--- pushes the set of alternating directories and globs
-abbrev pub with_pairs : WalkState → Bool → Result (List (List ℕ) × List (List ℕ)) LineFault
-    → Result WalkState LineFault
-with_pairs state prefix_paths (Ok pairs) =
-    with_globs state prefix_paths (paths_of pairs.0) (globs_of pairs.1)
-with_pairs state prefix_paths (Err kind) = Err kind
-
-abbrev pub globs_step : WalkState → Bool → List (List ℕ) → Result WalkState LineFault
-globs_step state prefix_paths fields = with_pairs state prefix_paths (paired_fields fields)
+-- the set of a word and its fields; globs are in their directories
+abbrev pub named_set : SetWord → List Path → List GlobSpec → NamedSet
+named_set Everything' paths globs = Everything
+named_set Nothing' paths globs = Nothing
+named_set Files' paths globs = Files paths
+named_set Prefix' paths globs = Prefix paths
+named_set Globs' paths globs = Globs (record { prefix_paths = false; patterns = zip paths globs })
+named_set PrefixGlobs paths globs =
+    Globs (record { prefix_paths = true; patterns = zip paths globs })
 
 -- combines the top two sets; the first operand is the one that was pushed first
 abbrev pub with_combined : List Path → Combination → List (SetTree NamedSet)
@@ -105,32 +69,23 @@ with_combined marks combination (alone ∷ []) = Err EmptyStack
 with_combined marks combination (second ∷ first ∷ stack) =
     Ok (record { marks = marks; stack = both combination first second ∷ stack })
 
--- combines the top two sets for a line without fields
-abbrev pub combined_step : WalkState → Combination → List (List ℕ) → Result WalkState LineFault
-combined_step state combination [] = with_combined state.marks combination state.stack
-combined_step state combination (field ∷ fields) = Err BadFieldCount
+-- the transition by an action
+abbrev pub walk_act : WalkState → WalkForm → List Path → List GlobSpec → Result WalkState LineFault
+walk_act state Mark paths globs =
+    Ok (record { marks = state.marks ++ paths; stack = state.stack })
+walk_act state (Push word) paths globs = Ok (record
+    { marks = state.marks; stack = one (named_set word paths globs) ∷ state.stack })
+walk_act state (Combine combination) paths globs =
+    with_combined state.marks combination state.stack
 
--- marks the path of a line with one field
-abbrev pub mark_step : WalkState → List (List ℕ) → Result WalkState LineFault
-mark_step state [] = Err BadFieldCount
-mark_step state (text ∷ []) = with_mark state (path_at text)
-mark_step state (text ∷ other ∷ texts) = Err BadFieldCount
+-- the action, the paths and the globs of a line
+abbrev pub walk_line : List (List ℕ) → Result (WalkForm × List Path × List GlobSpec) LineFault
+walk_line = line_of path_kind glob_kind (table WALK_FORMS)
 
 -- the transition at a line
 abbrev pub walk_step : WalkState → List (List ℕ) → Result WalkState LineFault
-walk_step state [] = Err UnknownCommand
-walk_step state (name ∷ fields) =
-    cond (bytes_eq name (codes "mark")) (mark_step state fields)
-    (cond (bytes_eq name (codes "everything")) (with_set_alone state Everything fields)
-    (cond (bytes_eq name (codes "nothing")) (with_set_alone state Nothing fields)
-    (cond (bytes_eq name (codes "files")) (with_paths state Files (paths_of fields))
-    (cond (bytes_eq name (codes "prefix")) (with_paths state Prefix (paths_of fields))
-    (cond (bytes_eq name (codes "globs")) (globs_step state false fields)
-    (cond (bytes_eq name (codes "prefix-globs")) (globs_step state true fields)
-    (cond (bytes_eq name (codes "union")) (combined_step state Union fields)
-    (cond (bytes_eq name (codes "difference")) (combined_step state Difference fields)
-    (cond (bytes_eq name (codes "intersection")) (combined_step state Intersection fields)
-    (Err UnknownCommand))))))))))
+walk_step state fields =
+    result_and_then (walk_line fields) (λ line. walk_act state line.0 line.1 line.2)
 
 -- the meaning of a whole input: the marked paths and one set
 pub record WalkRequest : Type 0 where

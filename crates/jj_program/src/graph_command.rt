@@ -1,19 +1,15 @@
 //! The command `graph`: reads adjacency lists, then prints the topological order, the heads or the
 //! closest common nodes of the ids of each request.
-ghost use Rattle.std.specs.Prelude.{◌≡◌, ◌==◌, ◌<◌, ◌++◌, ℕ, All, List, length, map, true, false, Ok, MatchOption, MatchResult, IfOk, IfErr, OnOk, string_bytes};
-ghost use Rattle.std.specs.List.{Contains, after_first, before_first, count_by, position_or_len};
-ghost use Rattle.std.specs.Str.Parse.{digits_value};
-ghost use Rattle.jj_program.specs.declared.fault.LineFault.TheVariants.{BadNumber};
+ghost use Rattle.std.specs.Prelude.{◌≡◌, ◌++◌, ℕ, All, List, Ok, IfOk, IfErr, OnOk, string_bytes};
+ghost use Rattle.std.specs.List.{Contains};
 ghost use Rattle.jj_program.specs.Lines.{IsFaultOf};
-ghost use Rattle.jj_program.specs.Numbers.{is_number};
 ghost use Rattle.jj_program.specs.Steps.{Agrees};
-ghost use Rattle.jj_program.specs.Texts.{texts_of};
 ghost use Rattle.jj_program.specs.ListedGraphs.{named_by, shown_by};
-ghost use Rattle.jj_program.specs.GraphCommand.{GraphState, Order, Heads, HasCycle, AnswersRequest, GivesGraph, graph_state, ids_of, graph_step, common_step, is_dash, node_step, numbers_of, numbers_line, with_request};
+ghost use Rattle.jj_program.specs.GraphCommand.{GraphState, HasCycle, AnswersRequest, GivesGraph, graph_state, ids_of, graph_step, number_kind, numbers_line, with_node, with_request};
 ghost use Rattle.jj_program.specs.GraphViews.{graph_request_of, graph_state_of};
 
 use crate::fault::{Fault, LineFault, StepFault};
-use crate::fields::{Field, parse_fields};
+use crate::forms::{Field, Shape, parse_line};
 use crate::graph_walks::{ascending_common, ascending_heads, greatest_order, has_cycle};
 use crate::listed_graph::ListedGraph;
 use crate::number::parse_number;
@@ -41,11 +37,7 @@ impl<'t> Field<'t> for u64 {
 
     ghost value = { λ number. number };
 
-    ghost is_one = { is_number };
-
-    ghost value_of = { digits_value 10 };
-
-    ghost otherwise = { BadNumber };
+    ghost kind = { number_kind };
 
     fn parse(_alloc: Global, text: &'t str) -> Result<u64, StepFault> {
         match parse_number(text) {
@@ -55,107 +47,46 @@ impl<'t> Field<'t> for u64 {
     }
 }
 
-// Whether a field is the separator between two sets.
-fn is_dash(field: &str) -> bool
-    ensures { result ≡ is_dash field.now }
-{
-    field == "-"
+// The action of a line.
+#[derive(Clone, Copy)]
+pub(crate) enum GraphForm {
+    Node,
+    Order,
+    Heads,
+    Common,
 }
 
-fn dash_count(fields: &[&str]) -> usize
-    ensures { result ≡ count_by is_dash (texts_of fields.now) }
-{
-    let mut dashes = 0;
-    for field in fields {
-        if is_dash(field) {
-            dashes += 1;
-        }
-    }
-    dashes
-}
-
-// Returns the index of the first separator, or the number of fields.
-fn dash_place(fields: &[&str]) -> usize
-    ensures place { result ≡ position_or_len is_dash (texts_of fields.now) }
-    ensures within { count_by is_dash (texts_of fields.now) ≡ 1
-        → result < length fields.now }
-{
-    let mut place = 0;
-    for field in fields {
-        if is_dash(field) {
-            return place;
-        }
-        place += 1;
-    }
-    place
-}
-
-// Splits the fields at the separator. Returns `None` unless there is exactly one.
-fn split_sets<'a, 't>(fields: &'a [&'t str]) -> Option<(&'a [&'t str], &'a [&'t str])>
-    ensures { MatchOption result ((count_by is_dash (texts_of fields.now) == 1)
-        ≡ false)
-        (λ sets. ((count_by is_dash (texts_of fields.now) == 1) ≡ true)
-        × (texts_of sets.0.now
-        ≡ before_first is_dash (texts_of fields.now))
-        × (texts_of sets.1.now
-        ≡ after_first is_dash (texts_of fields.now))) }
-{
-    if dash_count(fields) != 1 {
-        return None;
-    }
-    let place = dash_place(fields);
-    Some((&fields[..place], &fields[place + 1..]))
-}
+// The lines of `graph`; all fields are ids.
+pub(crate) const GRAPH_FORMS: &[(&str, Shape, GraphForm)] = &[
+    ("node", Shape::NonEmpty, GraphForm::Node),
+    ("order", Shape::Any, GraphForm::Order),
+    ("heads", Shape::Any, GraphForm::Heads),
+    ("common", Shape::Dashed, GraphForm::Common),
+];
 
 impl GraphReading {
-    // `node ID NEIGHBOR..`
-    fn list(&mut self, alloc: Global, fields: &[&str]) -> Result<(), StepFault>
+    // Adds the adjacency list of the first id.
+    fn list(&mut self, mut ids: Vec<u64>) -> Result<(), StepFault>
         ensures { Agrees result (λ _. graph_state_of self.new)
-            (node_step (graph_state_of self.old) (texts_of fields.now)) }
+            (with_node (graph_state_of self.old) ids.items) }
     {
-        let [id, neighbors @ ..] = fields else {
-            return Err(StepFault::Line(LineFault::BadFieldCount));
-        };
-        let id = u64::parse(alloc, id)?;
-        let neighbors = parse_fields(alloc, neighbors)?;
+        if ids.is_empty() {
+            return Ok(());
+        }
+        let id = ids.remove(0);
         if self.neighbors.contains_key(&id) {
             return Err(StepFault::Line(LineFault::RepeatedNode));
         }
-        self.neighbors.insert(id, neighbors)?;
+        self.neighbors.insert(id, ids)?;
         Ok(())
     }
 
-    // `order ID..`
-    fn ask_order(&mut self, alloc: Global, fields: &[&str]) -> Result<(), StepFault>
+    // Appends a request.
+    fn ask(&mut self, request: GraphRequest) -> Result<(), StepFault>
         ensures { Agrees result (λ _. graph_state_of self.new)
-            (with_request (graph_state_of self.old) Order (numbers_of (texts_of fields.now))) }
+            (with_request (graph_state_of self.old) (graph_request_of request)) }
     {
-        let ids = parse_fields(alloc, fields)?;
-        self.requests.push(GraphRequest::Order(ids))?;
-        Ok(())
-    }
-
-    // `heads ID..`
-    fn ask_heads(&mut self, alloc: Global, fields: &[&str]) -> Result<(), StepFault>
-        ensures { Agrees result (λ _. graph_state_of self.new)
-            (with_request (graph_state_of self.old) Heads (numbers_of (texts_of fields.now))) }
-    {
-        let ids = parse_fields(alloc, fields)?;
-        self.requests.push(GraphRequest::Heads(ids))?;
-        Ok(())
-    }
-
-    // `common ID.. - ID..`
-    fn ask_common(&mut self, alloc: Global, fields: &[&str]) -> Result<(), StepFault>
-        ensures { Agrees result (λ _. graph_state_of self.new)
-            (common_step (graph_state_of self.old) (texts_of fields.now)) }
-    {
-        let Some((first, second)) = split_sets(fields) else {
-            return Err(StepFault::Line(LineFault::BadFieldCount));
-        };
-        let set1 = parse_fields(alloc, first)?;
-        let set2 = parse_fields(alloc, second)?;
-        self.requests.push(GraphRequest::Common(set1, set2))?;
+        self.requests.push(request)?;
         Ok(())
     }
 }
@@ -168,15 +99,12 @@ impl<'t> Reading<'t> for GraphReading {
     ghost step = { graph_step };
 
     fn take(&mut self, alloc: Global, fields: &[&'t str]) -> Result<(), StepFault> {
-        let [name, rest @ ..] = fields else {
-            return Err(StepFault::Line(LineFault::UnknownCommand));
-        };
-        match *name {
-            "node" => self.list(alloc, rest),
-            "order" => self.ask_order(alloc, rest),
-            "heads" => self.ask_heads(alloc, rest),
-            "common" => self.ask_common(alloc, rest),
-            _ => Err(StepFault::Line(LineFault::UnknownCommand)),
+        let (form, first, second) = parse_line::<GraphForm, u64, u64>(alloc, GRAPH_FORMS, fields)?;
+        match form {
+            GraphForm::Node => self.list(first),
+            GraphForm::Order => self.ask(GraphRequest::Order(first)),
+            GraphForm::Heads => self.ask(GraphRequest::Heads(first)),
+            GraphForm::Common => self.ask(GraphRequest::Common(first, second)),
         }
     }
 }

@@ -3,15 +3,34 @@ ghost use Rattle.std.specs.Prelude.{◌≡◌, ◌++◌, ℕ, List, Ok, IfOk, If
 ghost use Rattle.jj_program.specs.Lines.{IsFaultOf};
 ghost use Rattle.jj_program.specs.Steps.{Agrees};
 ghost use Rattle.jj_program.specs.Texts.{texts_of};
-ghost use Rattle.jj_program.specs.HashCommand.{named_bytes, raw_bytes, content_of_one, content_of_merge, digest_of, digest_line, hash_step, hash_output, GivesHash};
+ghost use Rattle.jj_program.specs.HashCommand.{digest_line, digest_of, hashed, or_bad_hex, bytes_of_hex, hash_step, hash_output, GivesHash};
+ghost use Rattle.jj_program.specs.HashViews.{HasSize};
 
 use crate::fault::{Fault, LineFault, StepFault};
+use crate::forms::{Shape, form_line};
 use crate::merge_command::merge_of;
 use crate::reading::{Reading, take_lines};
 use jj_content::blake2b::Blake2b512;
 use jj_content::content_hash::blake2b_hash;
 use jj_content::hex_util::{decode_hex, encode_hex};
 use std::alloc::{AllocError, Global};
+
+// The content that a line describes.
+#[derive(Clone, Copy)]
+pub(crate) enum HashInput {
+    Raw,
+    Text,
+    List,
+    Merge,
+}
+
+// The lines of `hash`.
+pub(crate) const HASH_FORMS: &[(&str, Shape, HashInput)] = &[
+    ("raw", Shape::One, HashInput::Raw),
+    ("text", Shape::One, HashInput::Text),
+    ("list", Shape::Any, HashInput::List),
+    ("merge", Shape::Odd, HashInput::Merge),
+];
 
 // The output for the lines so far.
 #[derive(Drop)]
@@ -27,7 +46,8 @@ impl<'t> Reading<'t> for HashReading {
     ghost step = { hash_step };
 
     fn take(&mut self, alloc: Global, fields: &[&'t str]) -> Result<(), StepFault> {
-        let digest = line_digest(alloc, fields)?;
+        let (input, _shape, fields) = form_line(HASH_FORMS, fields)?;
+        let digest = input_digest(alloc, input, fields)?;
         push_digest(alloc, &mut self.output, &digest)?;
         Ok(())
     }
@@ -45,57 +65,38 @@ pub(crate) fn hash_lines(alloc: Global, text: &str) -> Result<Vec<u8>, Fault>
     Ok(reading.output)
 }
 
-// Dispatches on the line's first field.
-fn line_digest(alloc: Global, fields: &[&str]) -> Result<[u8; 64], StepFault>
-    ensures { Agrees result (λ digest. digest) (digest_of (named_bytes (texts_of fields.now))) }
+// The digest of the content of a line with these fields.
+fn input_digest(alloc: Global, input: HashInput, fields: &[&str]) -> Result<[u8; 64], StepFault>
+    requires { HasSize input (texts_of fields.now) }
+    ensures { Agrees result (λ digest. digest) (digest_of (hashed input (texts_of fields.now))) }
 {
-    let [name, fields @ ..] = fields else {
-        return Err(StepFault::Line(LineFault::UnknownCommand));
-    };
-    match *name {
-        "raw" => raw_digest(alloc, fields),
-        "text" => text_digest(alloc, fields),
-        "list" => Ok(blake2b_hash(alloc, &fields)?),
-        "merge" => merge_digest(alloc, fields),
-        _ => Err(StepFault::Line(LineFault::UnknownCommand)),
+    match input {
+        HashInput::Raw => match fields {
+            [text] => raw_digest(alloc, text),
+            _ => unreachable!(),
+        },
+        HashInput::Text => match fields {
+            [text] => Ok(blake2b_hash(alloc, text)?),
+            _ => unreachable!(),
+        },
+        HashInput::List => Ok(blake2b_hash(alloc, &fields)?),
+        HashInput::Merge => {
+            let terms = merge_of(alloc, fields)?;
+            Ok(blake2b_hash(alloc, &terms)?)
+        }
     }
 }
 
-// `raw HEX`: the digest of the decoded bytes themselves
-fn raw_digest(alloc: Global, fields: &[&str]) -> Result<[u8; 64], StepFault>
-    ensures { Agrees result (λ digest. digest) (digest_of (raw_bytes (texts_of fields.now))) }
+// The digest of the bytes of a hex string.
+fn raw_digest(alloc: Global, text: &str) -> Result<[u8; 64], StepFault>
+    ensures { Agrees result (λ digest. digest) (digest_of (or_bad_hex (bytes_of_hex text.now))) }
 {
-    let [text] = fields else {
-        return Err(StepFault::Line(LineFault::BadFieldCount));
-    };
     let Some(bytes) = decode_hex(alloc, text.as_bytes())? else {
         return Err(StepFault::Line(LineFault::BadHex));
     };
     let mut hasher = Blake2b512::new();
     hasher.update(&bytes);
     Ok(hasher.finalize())
-}
-
-// `text STRING`: the digest of a string's content bytes
-fn text_digest(alloc: Global, fields: &[&str]) -> Result<[u8; 64], StepFault>
-    ensures { Agrees result (λ digest. digest) (digest_of (content_of_one (texts_of fields.now))) }
-{
-    let [text] = fields else {
-        return Err(StepFault::Line(LineFault::BadFieldCount));
-    };
-    Ok(blake2b_hash(alloc, text)?)
-}
-
-// `merge TERM..`: the digest of the content bytes of a merge of strings
-fn merge_digest(alloc: Global, fields: &[&str]) -> Result<[u8; 64], StepFault>
-    ensures { Agrees result (λ digest. digest)
-        (digest_of (content_of_merge (texts_of fields.now))) }
-{
-    if fields.len() % 2 != 1 {
-        return Err(StepFault::Line(LineFault::BadFieldCount));
-    }
-    let terms = merge_of(alloc, fields)?;
-    Ok(blake2b_hash(alloc, &terms)?)
 }
 
 // Appends a line with the digest in hex to the output.

@@ -3,6 +3,7 @@ ghost use Rattle.jj_program.specs.FirstFaults.{GivesFirstFault};
 ghost use Rattle.jj_program.specs.FoundFiles.{FindsItsFiles};
 ghost use Rattle.jj_program.specs.Laws.{GivesOneAnswer};
 ghost use Rattle.jj_program.specs.LineFaults.{AnswersFirstFault};
+ghost use Rattle.jj_program.specs.LineForms.{HasTheseLines};
 
 /// Each command has exactly one result for an input, one output or one fault: what a run writes is
 /// a function of what it reads.
@@ -28,4 +29,9 @@ pub fn faults_are_of_first_kinds()
 /// however matching is implemented.
 pub fn walks_find_their_files()
     ensures { FindsItsFiles }
+{}
+
+/// The lines of each command: the word, the shape of the fields after it, and the action.
+pub fn commands_have_these_lines()
+    ensures { HasTheseLines }
 {}

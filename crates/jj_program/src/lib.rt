@@ -3,8 +3,8 @@
 #![tactic(auto)]
 
 mod fault;
-mod fields;
 mod file_set;
+mod forms;
 mod graph_command;
 mod graph_walks;
 mod hash_command;

@@ -2,10 +2,11 @@
 ghost use Rattle.std.specs.Prelude.{◌≡◌, ◌++◌, map, ℕ, List, Ok, IfOk, IfErr, OnOk, length};
 ghost use Rattle.jj_merges.specs.Merge.{IsOdd};
 ghost use Rattle.jj_program.specs.Lines.{IsFaultOf};
-ghost use Rattle.jj_program.specs.MergeCommand.{MergeRequest, question_named, merge_step, merge_requests, IsMergeAnswer, GivesMerge};
+ghost use Rattle.jj_program.specs.MergeCommand.{MergeRequest, merge_step, merge_requests, IsMergeAnswer, GivesMerge};
 ghost use Rattle.jj_program.specs.MergeViews.{merge_request_of, merge_requests_of};
 
-use crate::fault::{Fault, LineFault, StepFault};
+use crate::fault::{Fault, StepFault};
+use crate::forms::{Shape, form_line};
 use crate::merge_outcome::outcome;
 use crate::output_lines::push_line;
 use crate::reading::{Reading, take_lines};
@@ -19,19 +20,12 @@ pub(crate) enum Question {
     Resolve(SameChange),
 }
 
-impl Question {
-    // Parses a line's first field.
-    fn from_name(name: &str) -> Option<Question>
-        ensures { result ≡ question_named name.now }
-    {
-        match name {
-            "simplify" => Some(Question::Simplify),
-            "keep" => Some(Question::Resolve(SameChange::Keep)),
-            "accept" => Some(Question::Resolve(SameChange::Accept)),
-            _ => None,
-        }
-    }
-}
+// The lines of `merge`.
+pub(crate) const MERGE_FORMS: &[(&str, Shape, Question)] = &[
+    ("simplify", Shape::Odd, Question::Simplify),
+    ("keep", Shape::Odd, Question::Resolve(SameChange::Keep)),
+    ("accept", Shape::Odd, Question::Resolve(SameChange::Accept)),
+];
 
 // A requested operation and its operand.
 #[derive(Drop)]
@@ -64,15 +58,7 @@ impl<'t> Reading<'t> for MergeReading<'t> {
     ghost step = { merge_step };
 
     fn take(&mut self, alloc: Global, fields: &[&'t str]) -> Result<(), StepFault> {
-        let [name, terms @ ..] = fields else {
-            return Err(StepFault::Line(LineFault::UnknownCommand));
-        };
-        let Some(question) = Question::from_name(name) else {
-            return Err(StepFault::Line(LineFault::UnknownCommand));
-        };
-        if terms.len() % 2 != 1 {
-            return Err(StepFault::Line(LineFault::BadFieldCount));
-        }
+        let (question, _shape, terms) = form_line(MERGE_FORMS, fields)?;
         let terms = merge_of(alloc, terms)?;
         self.requests.push(MergeRequest { question, terms })?;
         Ok(())

@@ -1,27 +1,28 @@
 //! The command `walk`: marks paths, builds a set of files in postfix notation, and lists the marked
 //! files in the set and the directories that a pruned walk enters.
-ghost use Rattle.std.specs.Prelude.{◌≡◌, ◌++◌, List, [], ◌∷◌, length, map, Bool, Ok, MatchResult, IfOk, IfErr, OnOk};
+ghost use Rattle.std.specs.Prelude.{◌≡◌, ◌++◌, [], ◌∷◌, length, map, Bool, Ok, IfOk, IfErr, OnOk};
 ghost use Rattle.jj_paths.specs.Names.{path_of};
-ghost use Rattle.jj_paths.specs.Paths.{Path, components, is_path_string};
+ghost use Rattle.jj_paths.specs.Paths.{Path};
 ghost use Rattle.jj_paths.specs.Tree.{Tree};
 ghost use Rattle.jj_globs.specs.GlobMeaning.{GlobSpec};
 ghost use Rattle.jj_matchers.specs.Marks.{IsMarkedTree};
-ghost use Rattle.jj_program.specs.declared.fault.LineFault.TheVariants.{BadPath, BadGlob};
 ghost use Rattle.jj_program.specs.Lines.{IsFaultOf};
 ghost use Rattle.jj_program.specs.SetTrees.{SetTree};
-ghost use Rattle.jj_program.specs.WalkCommand.{NamedSet, WalkState, Files, Prefix, paths_of, is_glob_text, glob_of, globs_step, paired_fields, combined_step, with_set_alone, with_paths, mark_step, walk_step, walk_request};
+ghost use Rattle.jj_program.specs.WalkCommand.{NamedSet, WalkState, glob_kind, named_set, path_kind, with_combined, walk_step, walk_request};
 ghost use Rattle.jj_program.specs.SetViews.{set_of};
 ghost use Rattle.jj_program.specs.SetStacks.{sets_in};
 ghost use Rattle.jj_program.specs.Steps.{Agrees};
-ghost use Rattle.jj_program.specs.Texts.{texts_of};
 ghost use Rattle.jj_program.specs.WalkViews.{state_of};
 ghost use Rattle.jj_program.specs.Walked.{GivesWalk, walk_lines, path_lines};
 
 use crate::fault::{Fault, LineFault, StepFault};
-use crate::fields::{Field, parse_fields};
+use crate::file_set::Combination::{Difference, Intersection, Union};
 use crate::file_set::{Combination, FileSet, SetStack, walk_set};
+use crate::forms::{Field, Shape, parse_line};
 use crate::output_lines::push_line;
 use crate::reading::{Reading, take_lines};
+use crate::walk_command::SetWord::{Everything, Files, Globs, Nothing, Prefix, PrefixGlobs};
+use crate::walk_command::WalkForm::{Combine, Mark, Push};
 use jj_globs::glob::GlobError;
 use jj_matchers::matchers::{PathGlobPattern, marked_tree};
 use jj_paths::repo_path::{InvalidNewRepoPathError, RepoPath, RepoPathBuf};
@@ -39,11 +40,7 @@ impl<'t> Field<'t> for RepoPath<'t> {
 
     ghost value = { path_of };
 
-    ghost is_one = { is_path_string };
-
-    ghost value_of = { components };
-
-    ghost otherwise = { BadPath };
+    ghost kind = { path_kind };
 
     fn parse(alloc: Global, text: &'t str) -> Result<RepoPath<'t>, StepFault> {
         match RepoPath::from_internal_string(alloc, text) {
@@ -61,11 +58,7 @@ impl<'t> Field<'t> for PathGlobPattern {
 
     ghost value = { λ glob. glob };
 
-    ghost is_one = { is_glob_text };
-
-    ghost value_of = { glob_of };
-
-    ghost otherwise = { BadGlob };
+    ghost kind = { glob_kind };
 
     fn parse(alloc: Global, text: &'t str) -> Result<PathGlobPattern, StepFault> {
         match PathGlobPattern::parse(alloc, text) {
@@ -78,100 +71,62 @@ impl<'t> Field<'t> for PathGlobPattern {
     }
 }
 
-// Splits alternating fields into directories and globs.
-fn pairs<'t>(alloc: Global, fields: &[&'t str]) -> Result<(Vec<&'t str>, Vec<&'t str>), StepFault>
-    ensures { Agrees result (λ pairs. (texts_of pairs.0.items, texts_of pairs.1.items))
-        (paired_fields (texts_of fields.now)) }
+// The sets that a line can push.
+#[derive(Clone, Copy, PartialEq, Eq)]
+pub(crate) enum SetWord {
+    Everything,
+    Nothing,
+    Files,
+    Prefix,
+    Globs,
+    PrefixGlobs,
+}
+
+// The action of a line.
+#[derive(Clone, Copy)]
+pub(crate) enum WalkForm {
+    Mark,
+    Push(SetWord),
+    Combine(Combination),
+}
+
+// The lines of `walk`; the first list of fields has paths, the second globs.
+pub(crate) const WALK_FORMS: &[(&str, Shape, WalkForm)] = &[
+    ("mark", Shape::One, Mark),
+    ("everything", Shape::Empty, Push(Everything)),
+    ("nothing", Shape::Empty, Push(Nothing)),
+    ("files", Shape::Any, Push(Files)),
+    ("prefix", Shape::Any, Push(Prefix)),
+    ("globs", Shape::Pairs, Push(Globs)),
+    ("prefix-globs", Shape::Pairs, Push(PrefixGlobs)),
+    ("union", Shape::Empty, Combine(Union)),
+    ("difference", Shape::Empty, Combine(Difference)),
+    ("intersection", Shape::Empty, Combine(Intersection)),
+];
+
+// The set of a word and its fields.
+fn file_set<'t>(word: SetWord, paths: Vec<RepoPath<'t>>, globs: Vec<PathGlobPattern>) -> FileSet<'t>
+    ensures { set_of result ≡ named_set word (map path_of paths.entry.items) globs.items }
 {
-    let mut dirs = Vec::new(alloc);
-    let mut globs = Vec::new(alloc);
-    let mut rest = fields;
-    while let [dir, glob, more @ ..] = rest {
-        dirs.push(*dir)?;
-        globs.push(*glob)?;
-        rest = more;
+    match word {
+        Everything => FileSet::Everything,
+        Nothing => FileSet::Nothing,
+        Files => FileSet::Files(paths),
+        Prefix => FileSet::Prefix(paths),
+        Globs | PrefixGlobs => FileSet::Globs {
+            prefix_paths: word == PrefixGlobs,
+            dirs: paths,
+            globs,
+        },
     }
-    if !rest.is_empty() {
-        return Err(StepFault::Line(LineFault::BadFieldCount));
-    }
-    Ok((dirs, globs))
 }
 
 impl<'t> WalkReading<'t> {
-    // `mark PATH`
-    fn mark(&mut self, alloc: Global, fields: &[&'t str]) -> Result<(), StepFault>
+    // Replaces the top two sets by their combination.
+    fn combine(&mut self, combination: Combination) -> Result<(), StepFault>
         ensures { Agrees result (λ _. state_of self.new)
-            (mark_step (state_of self.old) (texts_of fields.now)) }
+            (with_combined (state_of self.old).marks combination (state_of self.old).stack) }
     {
-        let [text] = fields else {
-            return Err(StepFault::Line(LineFault::BadFieldCount));
-        };
-        let path = RepoPath::parse(alloc, text)?;
-        self.marks.push(path)?;
-        Ok(())
-    }
-
-    // Pushes a constant set; there must be no fields.
-    fn push_alone(&mut self, fields: &[&'t str], set: FileSet<'t>) -> Result<(), StepFault>
-        ensures { Agrees result (λ _. state_of self.new)
-            (with_set_alone (state_of self.old) (set_of set.entry) (texts_of fields.now)) }
-    {
-        if !fields.is_empty() {
-            return Err(StepFault::Line(LineFault::BadFieldCount));
-        }
-        self.sets.push(set)?;
-        Ok(())
-    }
-
-    // `files PATH..`
-    fn push_files(&mut self, alloc: Global, fields: &[&'t str]) -> Result<(), StepFault>
-        ensures { Agrees result (λ _. state_of self.new)
-            (with_paths (state_of self.old) Files (paths_of (texts_of fields.now))) }
-    {
-        let paths = parse_fields(alloc, fields)?;
-        self.sets.push(FileSet::Files(paths))?;
-        Ok(())
-    }
-
-    // `prefix PATH..`
-    fn push_prefix(&mut self, alloc: Global, fields: &[&'t str]) -> Result<(), StepFault>
-        ensures { Agrees result (λ _. state_of self.new)
-            (with_paths (state_of self.old) Prefix (paths_of (texts_of fields.now))) }
-    {
-        let paths = parse_fields(alloc, fields)?;
-        self.sets.push(FileSet::Prefix(paths))?;
-        Ok(())
-    }
-
-    // `globs (DIR GLOB)..` and `prefix-globs (DIR GLOB)..`
-    fn push_globs(
-        &mut self,
-        alloc: Global,
-        fields: &[&'t str],
-        prefix_paths: bool,
-    ) -> Result<(), StepFault>
-        ensures { Agrees result (λ _. state_of self.new)
-            (globs_step (state_of self.old) prefix_paths (texts_of fields.now)) }
-    {
-        let (dirs, globs) = pairs(alloc, fields)?;
-        let dirs = parse_fields(alloc, &dirs)?;
-        let globs = parse_fields(alloc, &globs)?;
-        self.sets.push(FileSet::Globs {
-            prefix_paths,
-            dirs,
-            globs,
-        })?;
-        Ok(())
-    }
-
-    // Replaces the top two sets by their combination; there must be no fields.
-    fn combine(&mut self, fields: &[&'t str], combination: Combination) -> Result<(), StepFault>
-        ensures { Agrees result (λ _. state_of self.new)
-            (combined_step (state_of self.old) combination (texts_of fields.now)) }
-    {
-        if !fields.is_empty() {
-            return Err(StepFault::Line(LineFault::BadFieldCount));
-        }
         if self.sets.height() < 2 {
             return Err(StepFault::Line(LineFault::EmptyStack));
         }
@@ -188,21 +143,13 @@ impl<'t> Reading<'t> for WalkReading<'t> {
     ghost step = { walk_step };
 
     fn take(&mut self, alloc: Global, fields: &[&'t str]) -> Result<(), StepFault> {
-        let [name, rest @ ..] = fields else {
-            return Err(StepFault::Line(LineFault::UnknownCommand));
-        };
-        match *name {
-            "mark" => self.mark(alloc, rest),
-            "everything" => self.push_alone(rest, FileSet::Everything),
-            "nothing" => self.push_alone(rest, FileSet::Nothing),
-            "files" => self.push_files(alloc, rest),
-            "prefix" => self.push_prefix(alloc, rest),
-            "globs" => self.push_globs(alloc, rest, false),
-            "prefix-globs" => self.push_globs(alloc, rest, true),
-            "union" => self.combine(rest, Combination::Union),
-            "difference" => self.combine(rest, Combination::Difference),
-            "intersection" => self.combine(rest, Combination::Intersection),
-            _ => Err(StepFault::Line(LineFault::UnknownCommand)),
+        let (form, paths, globs) = parse_line::<WalkForm, RepoPath<'t>, PathGlobPattern>(
+            alloc, WALK_FORMS, fields,
+        )?;
+        match form {
+            Mark => Ok(self.marks.extend_from_slice(&paths)?),
+            Push(word) => Ok(self.sets.push(file_set(word, paths, globs))?),
+            Combine(combination) => self.combine(combination),
         }
     }
 }

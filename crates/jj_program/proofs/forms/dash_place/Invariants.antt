@@ -1,7 +1,7 @@
 -- No field so far is a dash.
 use Rattle.std.proofs.Common.{◌≡◌, ◌<◌, ℕ, [], map, false, get_or}
-use Rattle.jj_program.specs.GraphCommand.{is_dash}
-use Rattle.jj_program.proofs.graph_command.dash_place.Given as goal
+use Rattle.jj_program.specs.Forms.{is_dash}
+use Rattle.jj_program.proofs.forms.dash_place.Given as goal
 
 abbrev pub invariant-loop-field : goal.invariant-loop-field
 invariant-loop-field l = record {

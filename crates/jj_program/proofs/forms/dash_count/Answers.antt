@@ -1,7 +1,7 @@
 use Rattle.std.proofs.Common.{◌<◌, length, true, false, sym, ◌∙◌, arith}
 use Rattle.jj_program.proofs.Dashes.{counted_more}
-use Rattle.jj_program.proofs.graph_command.dash_count.Goals as goal
-use Rattle.jj_program.proofs.graph_command.dash_count.Goals.{then-is_dash, else-is_dash}
+use Rattle.jj_program.proofs.forms.dash_count.Goals as goal
+use Rattle.jj_program.proofs.forms.dash_count.Goals.{then-is_dash, else-is_dash}
 
 pub loop-field-preserved : goal.loop-field-preserved
 loop-field-preserved c =

@@ -3,9 +3,9 @@ use Rattle.std.specs.List.{position_or_len}
 use Rattle.std.proofs.lemmas.List.{length-map}
 use Rattle.std.proofs.lemmas.List.Sums.{position_or_len_is}
 use borrow.Author.Count.{below_more}
-use Rattle.jj_program.specs.GraphCommand.{is_dash}
+use Rattle.jj_program.specs.Forms.{is_dash}
 use Rattle.jj_program.proofs.Dashes.{counted_within, tested}
-use Rattle.jj_program.proofs.graph_command.dash_place.Goals as goal
+use Rattle.jj_program.proofs.forms.dash_place.Goals as goal
 
 pub loop-field-preserved : goal.loop-field-preserved
 loop-field-preserved c =

@@ -1,0 +1,29 @@
+use Rattle.std.proofs.Common.{◌≡◌, ◌∙◌, ◌+◌, ◌-◌, ℕ, List, Result, map, take, drop, length, sym, ap, subst, arith, length-drop}
+use Rattle.std.specs.List.{after_first, before_first, position_or_len}
+use Rattle.std.proofs.lemmas.List.{take-map, drop-map, take_all}
+use Rattle.jj_program.specs.declared.fault.LineFault.{LineFault}
+use Rattle.jj_program.specs.declared.forms.Shape.{Shape}
+use Rattle.jj_program.specs.Forms.{both, first_fields, is_dash, second_fields, values_at}
+use Rattle.jj_program.specs.Lines.{result_and_then}
+use Rattle.jj_program.specs.Steps.{Agrees}
+use Rattle.jj_program.specs.Texts.{Text, texts_of}
+use Rattle.jj_program.proofs.forms.parse_line.Goals as goal
+
+pub returns-in-Dashed : goal.returns-in-Dashed
+returns-in-Dashed g c =
+    let fields : List Text = c.in_ok-action.fields.now in
+    let texts = texts_of fields in
+    let shape = c.in_ok-action.shape in
+    let place = c.dash_place-place.result in
+    let is : place ≡ position_or_len is_dash texts = c.dash_place-place.ensures.place in
+    let after : List Text = take (length fields - (place + 1)) (drop (place + 1) fields) in
+    let whole : after ≡ drop (place + 1) fields = take_all (length fields - (place + 1)) (drop (place + 1) fields) (omega (arith, length-drop (place + 1) fields)) in
+    let firsts : texts_of (take place fields) ≡ before_first is_dash texts = sym (take-map (λ (field : Text). field.now) place fields) ∙ ap (λ n. take n texts) is in
+    let seconds : texts_of after ≡ after_first is_dash texts = ap texts_of whole ∙ sym (drop-map (λ (field : Text). field.now) (place + 1) fields) ∙ ap (λ n. drop (n + 1) texts) is in
+    let values : List (List ℕ) → List (List ℕ) → Result (g.row.A.Denot × List g.F.Field.Value × List g.G.Field.Value) LineFault =
+    λ xs ys. both c.in_ok-action.action (values_at g.F.Field.kind xs) (values_at g.G.Field.kind ys) in
+    let split : values (texts_of (take place fields)) (texts_of after) ≡ values (first_fields shape texts) (second_fields shape texts) =
+    ap (λ xs. values xs (texts_of after)) firsts ∙ ap (values (before_first is_dash texts)) seconds ∙ sym (ap (λ s. values (first_fields s texts) (second_fields s texts)) c.in-Dashed.is) in
+    let parsed = ap (λ (r : Result (g.row.A.Denot × Shape × List (List ℕ)) LineFault). result_and_then r (λ line. both line.0 (values_at g.F.Field.kind (first_fields line.1 line.2)) (values_at g.G.Field.kind (second_fields line.1 line.2)))) c.in_ok-action.ensures.parsed in
+    subst (λ (expected : Result (g.row.A.Denot × List g.F.Field.Value × List g.G.Field.Value) LineFault). Agrees c.parse_both-in-Dashed.result (λ line. (line.0, map g.F.Field.value line.1.items, map g.G.Field.value line.2.items)) expected)
+    (split ∙ sym parsed) c.parse_both-in-Dashed.ensures
