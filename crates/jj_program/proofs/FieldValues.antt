@@ -3,7 +3,6 @@ use Rattle.std.proofs.Common.{◌≡◌, ◌∙◌, ℕ, ◌+◌, ◌<◌, List,
 use Rattle.std.specs.Prelude.{◌&&◌}
 use Rattle.std.specs.List.{list_all}
 use Rattle.std.proofs.lemmas.List.{take_more, get_or-map, length-map, map-append}
-use Rattle.jj_program.specs.declared.fault.LineFault.{LineFault}
 use Rattle.jj_program.specs.declared.fault.StepFault.{StepFault}
 use Rattle.jj_program.specs.declared.fault.StepFault.TheVariants.{Memory, Line}
 use Rattle.jj_program.specs.Forms.{Kind, value_at, values_at}

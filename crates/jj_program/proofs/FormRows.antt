@@ -1,12 +1,11 @@
 -- Properties of the lines of a table whose rows have them.
-use Rattle.std.proofs.Common.{◌≡◌, ℕ, ◌%◌, Bool, true, false, cond, List, [], ◌∷◌, length, Option, Some, None, Result, Ok, Err, refl, ap, subst, eqb-true}
+use Rattle.std.proofs.Common.{◌≡◌, ℕ, ◌%◌, Bool, true, false, cond, List, [], ◌∷◌, length, Option, Some, Result, Ok, Err, refl, ap, subst, eqb-true}
 use Rattle.std.specs.Str.{bytes_eq}
 use Rattle.jj_program.specs.declared.fault.LineFault.{LineFault}
 use Rattle.jj_program.specs.declared.fault.LineFault.TheVariants.{BadFieldCount}
 use Rattle.jj_program.specs.declared.hash_command.HashInput.{HashInput}
 use Rattle.jj_program.specs.declared.hash_command.TheConstants.{HASH_FORMS}
 use Rattle.jj_program.specs.declared.forms.Shape.{Shape}
-use Rattle.jj_program.specs.declared.forms.Shape.TheVariants.{Empty, One, NonEmpty, Any, Odd, Pairs, Dashed}
 use Rattle.jj_program.specs.declared.merge_command.Question.{Question}
 use Rattle.jj_program.specs.declared.merge_command.TheConstants.{MERGE_FORMS}
 use Rattle.jj_program.specs.Forms.{Form, admits, admitted, form_line, form_named, table}

@@ -22,6 +22,7 @@ pub mod HashContent
 pub mod OneAnswer
 pub mod FoundFiles
 pub mod FirstFaults
+pub mod FirstKinds
 pub mod LineFaults
 pub mod SamePatterns
 pub mod SetPasses

@@ -1,5 +1,5 @@
 -- The fault of a command is the first kind of the first faulty line.
-use Rattle.std.proofs.Common.{◌≡◌, ◌∙◌, ◌==◌, ◌||◌, ℕ, ◌+◌, ◌<◌, ◌≤◌, Bool, true, false, cond, nat_lt, List, [], ◌∷◌, ◌++◌, length, Option, Some, None, is_some, Result, Ok, Err, refl, ap, sym, subst, arith, append_assoc, append-nil}
+use Rattle.std.proofs.Common.{◌≡◌, ◌∙◌, ◌==◌, ◌||◌, ℕ, ◌+◌, ◌<◌, Bool, true, false, cond, nat_lt, List, [], ◌∷◌, ◌++◌, length, Option, Some, None, is_some, Result, Ok, Err, refl, ap, sym, subst, arith, append_assoc, append-nil}
 use Rattle.std.specs.List.{count_by, list_any}
 use Rattle.std.specs.Option.{option_map, option_or}
 use Rattle.std.proofs.lemmas.Bool.{le-ltb, lt-ltb}
@@ -8,7 +8,7 @@ use Rattle.std.proofs.lemmas.List.Sums.{sum_by_push}
 use Rattle.jj_program.specs.declared.fault.Fault.{Fault}
 use Rattle.jj_program.specs.declared.fault.Fault.TheVariants.{ReadInput, NotUtf8, Memory, WriteOutput, Matchers, Line}
 use Rattle.jj_program.specs.declared.fault.LineFault.{LineFault}
-use Rattle.jj_program.specs.declared.fault.LineFault.TheVariants.{UnknownCommand, EmptyStack, RepeatedNode}
+use Rattle.jj_program.specs.declared.fault.LineFault.TheVariants.{UnknownCommand, EmptyStack}
 use Rattle.jj_program.specs.declared.file_set.Combination.{Combination}
 use Rattle.jj_program.specs.declared.graph_command.GraphForm.{GraphForm}
 use Rattle.jj_program.specs.declared.graph_command.GraphForm.TheVariants.{Node, Order, Heads, Common}
@@ -20,11 +20,12 @@ use Rattle.jj_globs.specs.GlobMeaning.{GlobSpec}
 use Rattle.jj_paths.specs.Paths.{Path}
 use Rattle.jj_program.specs.GraphCommand.{GraphRequest, Order as Order', Heads as Heads', Common as Common', GraphState, graph_start, graph_line, graph_step, graph_act, graph_state, listed_more}
 use Rattle.jj_program.specs.HashCommand.{hash_line, digest_of, digest_line, hash_step, hash_output}
-use Rattle.jj_program.specs.LineFaults.{kind_by, kind_of_fields, walk_refuses, graph_refuses, first_fault, pushes, combines, sets_left, lists_node, LeavesOneSet, IsToldBy, AnswersFirstFault}
+use Rattle.jj_program.specs.LineFaults.{kind_of_fields, first_fault, pushes, combines, sets_left, lists_node, LeavesOneSet, IsToldBy, AnswersFirstFault}
 use Rattle.jj_program.specs.Lines.{lines_of, fields_of, at_line, after_lines, result_and_then}
-use Rattle.jj_program.specs.MergeCommand.{MergeRequest, merge_step, merge_requests}
+use Rattle.jj_program.specs.MergeCommand.{merge_step, merge_requests}
 use Rattle.jj_program.specs.SetTrees.{SetTree, one, both}
 use Rattle.jj_program.specs.WalkCommand.{NamedSet, WalkState, walk_start, walk_line, walk_step, walk_act, named_set, with_combined, walk_end, walk_request, only_set}
+use Rattle.jj_program.proofs.FirstKinds.{first_kind, graph_refuses, kind_by, kind_by_table, walk_refuses}
 
 -- 1. The transition at a line agrees with the definition of its fault.
 
@@ -49,7 +50,7 @@ Told P (Err (Line line kind)) found = found ≡ Some (Line line kind)
 
 -- a step has the defined fault, and preserves the invariant
 abbrev StepAgrees : {S : Type 0} → Command → (S → List (List ℕ) → Result S LineFault) → (List (List ℕ) → S → Type 0) → List (List ℕ) → S → List ℕ → List (List ℕ) → Type 0
-StepAgrees command step Keeps earlier state line fields = HasKind (step state fields) (kind_of_fields command earlier fields) × After (step state fields) (Keeps (earlier ++ line ∷ []))
+StepAgrees command step Keeps earlier state line fields = HasKind (step state fields) (kind_by_table command earlier fields) × After (step state fields) (Keeps (earlier ++ line ∷ []))
 
 -- 2. Over lines, for any command.
 
@@ -76,7 +77,8 @@ module _ {S : Type 0} (command : Command) (step : S → List (List ℕ) → Resu
   told number earlier ((b ∷ bs) ∷ lines) state keeps =
       let line : List ℕ = b ∷ bs in
       let both = steps earlier state line keeps in
-      let deep = at_first number earlier lines (step state (fields_of line)) (kind_of_fields command earlier (fields_of line)) line both.0 both.1 (λ next kept. told (number + 1) (earlier ++ line ∷ []) lines next kept) in
+      let agrees : HasKind (step state (fields_of line)) (kind_of_fields command earlier (fields_of line)) = subst (HasKind (step state (fields_of line))) (first_kind command earlier (fields_of line)) both.0 in
+      let deep = at_first number earlier lines (step state (fields_of line)) (kind_of_fields command earlier (fields_of line)) line agrees both.1 (λ next kept. told (number + 1) (earlier ++ line ∷ []) lines next kept) in
       let P : List (List ℕ) → Type 0 = λ all. Told (Keeps all) (result_and_then (at_line number (step state (fields_of line))) (λ next. after_lines step (number + 1) next lines))
       (option_or (option_map (Line number) (kind_of_fields command earlier (fields_of line))) (first_fault command (earlier ++ line ∷ []) (number + 1) lines)) in
       subst P (append_assoc earlier (line ∷ []) lines) deep

@@ -1,27 +1,36 @@
--- Faults of lines, defined over the fields of the input only, and the first fault of an input.
+-- Faults of lines, kind by kind, defined over the fields of the input only, and the first fault of
+-- an input.
 -- Cited by contracts of public items: AnswersFirstFault.
-use Rattle.std.specs.Prelude.{◌≡◌, ◌≢◌, ◌==◌, ◌++◌, ◌+◌, ◌-◌, ℕ, Bool, true, false, nat_lt, List, [], ◌∷◌, cond, Option, Some, None, Result, Ok, Err}
-use Rattle.std.specs.List.{count_by, list_any}
+use Rattle.std.specs.Prelude.{◌≡◌, ◌≢◌, ◌==◌, ◌&&◌, ◌++◌, ◌+◌, ◌-◌, ℕ, Bool, true, false, not, nat_lt, List, [], ◌∷◌, map, Option, Some, None, is_some, Result, Ok, Err}
+use Rattle.std.specs.List.{concat, count_by, find, list_all, list_any}
 use Rattle.std.specs.Option.{option_map, option_or}
-use Rattle.jj_paths.specs.Paths.{Path}
+use Rattle.std.specs.Str.Parse.{digits_value}
+use Rattle.jj_paths.specs.Paths.{Path, is_path_string}
 use Rattle.jj_globs.specs.GlobMeaning.{GlobSpec}
 use Rattle.jj_program.specs.declared.fault.Fault.{Fault}
 use Rattle.jj_program.specs.declared.fault.Fault.TheVariants.{Matchers, Line}
 use Rattle.jj_program.specs.declared.fault.LineFault.{LineFault}
-use Rattle.jj_program.specs.declared.fault.LineFault.TheVariants.{EmptyStack, RepeatedNode}
+use Rattle.jj_program.specs.declared.fault.LineFault.TheVariants.{UnknownCommand, BadFieldCount, BadPath, BadGlob, EmptyStack, BadNumber, RepeatedNode, BadHex}
+use Rattle.jj_program.specs.declared.forms.Shape.{Shape}
 use Rattle.jj_program.specs.declared.graph_command.GraphForm.{GraphForm}
 use Rattle.jj_program.specs.declared.graph_command.GraphForm.TheVariants.{Node}
+use Rattle.jj_program.specs.declared.graph_command.TheConstants.{GRAPH_FORMS}
+use Rattle.jj_program.specs.declared.hash_command.HashInput.{HashInput}
+use Rattle.jj_program.specs.declared.hash_command.HashInput.TheVariants.{Raw}
+use Rattle.jj_program.specs.declared.hash_command.TheConstants.{HASH_FORMS}
 use Rattle.jj_program.specs.declared.merge_command.TheConstants.{MERGE_FORMS}
 use Rattle.jj_program.specs.declared.program.Command.{Command}
 use Rattle.jj_program.specs.declared.program.Command.TheVariants.{Walk, Merge, Graph, Hash}
+use Rattle.jj_program.specs.declared.walk_command.TheConstants.{WALK_FORMS}
 use Rattle.jj_program.specs.declared.walk_command.WalkForm.{WalkForm}
 use Rattle.jj_program.specs.declared.walk_command.WalkForm.TheVariants.{Push, Combine}
-use Rattle.jj_program.specs.Forms.{form_line, table}
+use Rattle.jj_program.specs.Forms.{admits, first_fields, form_named, second_fields, table}
 use Rattle.jj_program.specs.GraphCommand.{graph_line}
-use Rattle.jj_program.specs.HashCommand.{hash_line}
+use Rattle.jj_program.specs.HashCommand.{bytes_of_hex}
 use Rattle.jj_program.specs.Lines.{lines_of, fields_of}
+use Rattle.jj_program.specs.Numbers.{is_number}
 use Rattle.jj_program.specs.Program.{GivesText}
-use Rattle.jj_program.specs.WalkCommand.{walk_line}
+use Rattle.jj_program.specs.WalkCommand.{is_glob_text, walk_line}
 
 -- a line pushes a set; a line combines the top two
 abbrev pub pushes : Result (WalkForm × List Path × List GlobSpec) LineFault → Bool
@@ -42,32 +51,73 @@ abbrev pub lists_node : ℕ → Result (GraphForm × List ℕ × List ℕ) LineF
 lists_node id (Ok (Node, own ∷ neighbors, none)) = own == id
 lists_node id other = false
 
--- the fault of a line that parses, after these earlier lines: fewer than two sets to combine, or
--- a node that an earlier line lists
-abbrev pub walk_refuses : (earlier : List (List ℕ)) → WalkForm × List Path × List GlobSpec
-    → Option LineFault
-walk_refuses earlier (Combine combination, paths, globs) =
-    cond (nat_lt (sets_left earlier) 2) (Some EmptyStack) None
-walk_refuses earlier other = None
+-- an action combines two sets, and fewer are left
+abbrev pub is_short : WalkForm → ℕ → Bool
+is_short (Combine combination) left = nat_lt left 2
+is_short form left = false
 
-abbrev pub graph_refuses : (earlier : List (List ℕ)) → GraphForm × List ℕ × List ℕ
-    → Option LineFault
-graph_refuses earlier (Node, id ∷ neighbors, none) =
-    cond (list_any (λ line. lists_node id (graph_line (fields_of line))) earlier)
-    (Some RepeatedNode) None
-graph_refuses earlier other = None
+-- an action lists the node with the first id, and so does an earlier line
+abbrev pub is_repeated : GraphForm → (earlier : List (List ℕ)) → List ℕ → Bool
+is_repeated Node earlier (id ∷ neighbors) =
+    list_any (λ line. lists_node id (graph_line (fields_of line))) earlier
+is_repeated form earlier ids = false
 
--- the fault of a line by its table, else the one that `refuses` finds
-abbrev pub kind_by : {L : Type 0} → (L → Option LineFault) → Result L LineFault → Option LineFault
-kind_by refuses (Ok line) = refuses line
-kind_by refuses (Err kind) = Some kind
+-- an action decodes the field from hex, and the field is not hex
+abbrev pub is_bad_hex : HashInput → List (List ℕ) → Bool
+is_bad_hex Raw fields = not (is_some (bytes_of_hex (concat fields)))
+is_bad_hex input fields = false
 
--- the fault of a line; an empty line has none
+-- a line of a known word, with these fields after it, has a fault of this kind of its command
+abbrev pub walk_fails : (earlier fields : List (List ℕ)) → Shape × WalkForm → LineFault → Bool
+walk_fails earlier fields form BadPath =
+    not (list_all is_path_string (first_fields form.0 fields))
+walk_fails earlier fields form BadGlob =
+    not (list_all is_glob_text (second_fields form.0 fields))
+walk_fails earlier fields form EmptyStack = is_short form.1 (sets_left earlier)
+walk_fails earlier fields form kind = false
+
+abbrev pub graph_fails : (earlier fields : List (List ℕ)) → Shape × GraphForm → LineFault → Bool
+graph_fails earlier fields form BadNumber = not
+    (list_all is_number (first_fields form.0 fields)
+    && list_all is_number (second_fields form.0 fields))
+graph_fails earlier fields form RepeatedNode =
+    is_repeated form.1 earlier (map (digits_value 10) (first_fields form.0 fields))
+graph_fails earlier fields form kind = false
+
+abbrev pub hash_fails : (fields : List (List ℕ)) → Shape × HashInput → LineFault → Bool
+hash_fails fields form BadHex = is_bad_hex form.1 fields
+hash_fails fields form kind = false
+
+-- a line has a fault of this kind, by the row of its word: no row, a wrong number of fields, or one
+-- of its command
+abbrev pub fails_by : {A : Type 0} → (Shape × A → LineFault → Bool) → (fields : List (List ℕ))
+    → Option (Shape × A) → LineFault → Bool
+fails_by own fields None UnknownCommand = true
+fails_by own fields None kind = false
+fails_by own fields (Some form) UnknownCommand = false
+fails_by own fields (Some form) BadFieldCount = not (admits form.0 fields)
+fails_by own fields (Some form) kind = own form kind
+
+abbrev pub has_fault : Command → (earlier : List (List ℕ)) → (word : List ℕ)
+    → (fields : List (List ℕ)) → LineFault → Bool
+has_fault Walk earlier word fields =
+    fails_by (walk_fails earlier fields) fields (form_named (table WALK_FORMS) word)
+has_fault Merge earlier word fields =
+    fails_by (λ form kind. false) fields (form_named (table MERGE_FORMS) word)
+has_fault Graph earlier word fields =
+    fails_by (graph_fails earlier fields) fields (form_named (table GRAPH_FORMS) word)
+has_fault Hash earlier word fields =
+    fails_by (hash_fails fields) fields (form_named (table HASH_FORMS) word)
+
+-- the kinds in order of precedence
+abbrev pub kinds : List LineFault
+kinds = UnknownCommand ∷ BadFieldCount ∷ BadPath ∷ BadGlob ∷ EmptyStack ∷ BadNumber ∷ RepeatedNode
+    ∷ BadHex ∷ []
+
+-- the fault of a line, the first kind that it has; an empty line has none
 abbrev pub kind_of_fields : Command → (earlier fields : List (List ℕ)) → Option LineFault
-kind_of_fields Walk earlier fields = kind_by (walk_refuses earlier) (walk_line fields)
-kind_of_fields Merge earlier fields = kind_by (λ line. None) (form_line (table MERGE_FORMS) fields)
-kind_of_fields Graph earlier fields = kind_by (graph_refuses earlier) (graph_line fields)
-kind_of_fields Hash earlier fields = kind_by (λ line. None) (hash_line fields)
+kind_of_fields command earlier [] = Some UnknownCommand
+kind_of_fields command earlier (word ∷ fields) = find (has_fault command earlier word fields) kinds
 
 abbrev pub kind_of_line : Command → (earlier : List (List ℕ)) → List ℕ → Option LineFault
 kind_of_line command earlier [] = None
