@@ -6,7 +6,7 @@ use Rattle.jj_stores.specs.FirstDecisive.{VerifyResult, IsFirstDecisive, IsVerif
 use Rattle.jj_stores.specs.Verdict.{Verdict, is_unknown, unknown_verdict}
 use Rattle.jj_stores_tests.proofs.callers.verify_first.Goals as goal
 
--- the result found is the given one, which must be decisive
+-- the result is this one, which must be decisive
 by_choice : (decisive : Bool) (given found : VerifyResult) (May : VerifyResult → Type 0) → May given
     → MatchBool decisive (Some found ≡ Some given) (Some found ≡ None) → May found
 by_choice true given found May may same = let e : given ≡ found = cc in subst May e may
