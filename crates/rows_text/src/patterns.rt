@@ -2,7 +2,7 @@
 ghost use Rattle.std.specs.Iterator.{IsFinite};
 
 use jj_strings::str_util::{
-    StringExpression, StringMatcher, StringPattern, StringPatternParseError, StringSearcher,
+    StringExpression, StringMatcher, StringPattern, StringPatternParseError,
 };
 use rows::request::{Fields, Request};
 use rows::row_error::{RowError, agree};
@@ -16,10 +16,6 @@ fn pattern_of(alloc: Global, kind: &str, string: &str) -> Result<StringPattern, 
         Err(StringPatternParseError::Memory) => Err(RowError::Memory),
         Err(_) => Err(RowError::Precondition("a pattern")),
     }
-}
-
-fn matcher_of(alloc: Global, kind: &str, string: &str) -> Result<StringMatcher, RowError> {
-    Ok(pattern_of(alloc, kind, string)?.to_matcher(alloc)?)
 }
 
 fn put_error(alloc: Global, values: &mut Values, error: &StringPatternParseError) {
@@ -74,24 +70,7 @@ fn pattern(alloc: Global, request: &Request, values: &mut Values) -> Result<(), 
     }
 }
 
-// Returns whether a matcher matches a string. Fails unless the three ways to match agree.
-fn is_match(
-    alloc: Global,
-    matcher: &StringMatcher,
-    searcher: &mut StringSearcher<'_>,
-    bytes: &[u8],
-) -> Result<bool, RowError> {
-    let is_match = matcher.is_match_bytes(alloc, bytes)?;
-    let is_found = searcher.is_match_bytes(bytes)?;
-    agree(is_found == is_match, "a searcher")?;
-    if let Ok(string) = str::from_utf8(bytes) {
-        let is_string_match = matcher.is_match(alloc, string)?;
-        agree(is_string_match == is_match, "a match of a string")?;
-    }
-    Ok(is_match)
-}
-
-// Appends the strings that match.
+// Appends the strings that match. Fails unless the three ways to match agree.
 fn put_matches(
     alloc: Global,
     values: &mut Values,
@@ -101,29 +80,26 @@ fn put_matches(
     let mut searcher = matcher.searcher(alloc);
     for index in 0..strings.len() {
         let bytes = strings.bytes(index);
-        if is_match(alloc, matcher, &mut searcher, bytes)? {
+        let is_match = matcher.is_match_bytes(alloc, bytes)?;
+        if is_match {
             values.bytes(bytes);
+        }
+        agree(searcher.is_match_bytes(bytes)? == is_match, "a searcher")?;
+        if let Ok(string) = str::from_utf8(bytes) {
+            agree(
+                matcher.is_match(alloc, string)? == is_match,
+                "a match of a string",
+            )?;
         }
     }
     Ok(())
 }
 
 // Appends the strings that a pattern matches.
-fn put_pattern_matches(
-    alloc: Global,
-    values: &mut Values,
-    kind: &str,
-    string: &str,
-    strings: &Fields,
-) -> Result<(), RowError> {
-    let matcher = matcher_of(alloc, kind, string)?;
-    put_matches(alloc, values, &matcher, strings)
-}
-
-// Appends the strings that a pattern matches.
 fn matches(alloc: Global, request: &Request, values: &mut Values) -> Result<(), RowError> {
-    let (fields, strings) = (request.group(0), request.group(1));
-    put_pattern_matches(alloc, values, fields.string(0), fields.string(1), strings)
+    let fields = request.group(0);
+    let matcher = pattern_of(alloc, fields.string(0), fields.string(1))?.to_matcher(alloc)?;
+    put_matches(alloc, values, &matcher, request.group(1))
 }
 
 // Appends the debug form of a matcher of all strings or of one, and the strings that match.
@@ -174,7 +150,8 @@ fn glob(alloc: Global, request: &Request, values: &mut Values) -> Result<(), Row
     };
     values.word("some");
     values.string(glob.as_str());
-    put_pattern_matches(alloc, values, "glob", glob.as_str(), request.group(1))
+    let matcher = pattern_of(alloc, "glob", glob.as_str())?.to_matcher(alloc)?;
+    put_matches(alloc, values, &matcher, request.group(1))
 }
 
 fn pop(stack: &mut Vec<StringExpression>) -> Result<StringExpression, RowError> {
@@ -287,23 +264,14 @@ fn items_of<T: Drop, I: Iterator<Item = Result<T, AllocError>> + Drop>(
     Ok(items)
 }
 
-fn put_lines(
-    alloc: Global,
-    values: &mut Values,
-    matcher: &StringMatcher,
-    bytes: &[u8],
-) -> Result<(), AllocError> {
-    for line in items_of(alloc, matcher.match_lines(alloc, bytes))? {
-        values.bytes(line);
-    }
-    Ok(())
-}
-
 // Appends the lines of a string that a pattern matches.
 fn lines(alloc: Global, request: &Request, values: &mut Values) -> Result<(), RowError> {
     let fields = request.group(0);
-    let matcher = matcher_of(alloc, fields.string(0), fields.string(1))?;
-    put_lines(alloc, values, &matcher, fields.bytes(2))?;
+    let bytes = fields.bytes(2);
+    let matcher = pattern_of(alloc, fields.string(0), fields.string(1))?.to_matcher(alloc)?;
+    for line in items_of(alloc, matcher.match_lines(alloc, bytes))? {
+        values.bytes(line);
+    }
     Ok(())
 }
 
@@ -326,25 +294,14 @@ fn repeated(alloc: Global, fields: &Fields, start: usize) -> Result<String, Allo
     Ok(string)
 }
 
-fn repeated_matcher(alloc: Global, fields: &Fields) -> Result<StringMatcher, RowError> {
-    let pattern = repeated(alloc, fields, 1)?;
-    matcher_of(alloc, fields.string(0), pattern.as_str())
-}
-
-fn matches_parts(
-    alloc: Global,
-    matcher: &StringMatcher,
-    parts: &Fields,
-) -> Result<bool, AllocError> {
-    let string = repeated(alloc, parts, 0)?;
-    matcher.is_match(alloc, string.as_str())
-}
-
 // Appends whether a pattern with repeated parts matches strings with repeated parts.
 fn matches_repeated(alloc: Global, request: &Request, values: &mut Values) -> Result<(), RowError> {
-    let matcher = repeated_matcher(alloc, request.group(0))?;
-    for parts in request.groups().iter().skip(1) {
-        values.flag(matches_parts(alloc, &matcher, parts)?);
+    let fields = request.group(0);
+    let pattern = repeated(alloc, fields, 1)?;
+    let matcher = pattern_of(alloc, fields.string(0), pattern.as_str())?.to_matcher(alloc)?;
+    for strings in request.groups().iter().skip(1) {
+        let string = repeated(alloc, strings, 0)?;
+        values.flag(matcher.is_match(alloc, string.as_str())?);
     }
     Ok(())
 }

@@ -115,18 +115,6 @@ fn commits_of(alloc: Global, fields: &Fields) -> Result<Vec<CommitId>, RowError>
     Ok(commits)
 }
 
-fn verify_each(
-    alloc: Global,
-    signer: &mut Signer,
-    commits: &Fields,
-    values: &mut Values,
-) -> Result<(), RowError> {
-    for commit in &commits_of(alloc, commits)? {
-        put_verification(signer.verify(commit, b"data", b"signature"), values)?;
-    }
-    Ok(())
-}
-
 // CAPACITY | MAIN OTHER .. | COMMIT ..
 fn verify_all(
     alloc: Global,
@@ -138,6 +126,7 @@ fn verify_all(
         return Err(RowError::Precondition("a capacity"));
     };
     let backends = request.group(1);
+    let commits = commits_of(alloc, request.group(2))?;
     let main = backend_of(alloc, backends.string(0), counters)?;
     let main: Box<dyn SigningBackend> = Box::new(alloc, main)?;
     let mut others = Vec::new(alloc);
@@ -147,7 +136,10 @@ fn verify_all(
         others.push(other)?;
     }
     let mut signer = Signer::with_capacity(alloc, Some(main), others, capacity)?;
-    verify_each(alloc, &mut signer, request.group(2), values)
+    for commit in &commits {
+        put_verification(signer.verify(commit, b"data", b"signature"), values)?;
+    }
+    Ok(())
 }
 
 // `signer CAPACITY | MAIN OTHER .. | COMMIT ..`: the status or the error of each verification, and
