@@ -1,7 +1,7 @@
 -- Proofs that the content of each type is injective and prefix-free, from the same of its parts.
 -- Cited by contracts of public items: bool_lawful, both_lawful, i32_lawful, i64_lawful,
--- list_lawful, on_lawful, option_lawful, string_lawful, u32_lawful, u64_lawful, u8_lawful,
--- unit_lawful.
+-- list_lawful, narrow_lawful, on_lawful, option_lawful, string_lawful, u32_lawful, u64_lawful,
+-- u8_lawful, unit_lawful.
 use Rattle.std.proofs.Common.{◌≡◌, ◌&&◌, ℕ, ◌<◌, ◌^◌, List, [], ◌∷◌, ◌++◌, length, take, drop, Bool, true, false, refl, sym, ap, ◌∙◌, arith, Option, Some, None, eq-eqb}
 use Rattle.std.proofs.lemmas.List.{append_assoc, append_cancel_left}
 use Rattle.std.proofs.lemmas.List.Elements.{recursion_from_All}
@@ -81,6 +81,14 @@ pub on_lawful : {X Y : Type 0} (part : X → Y) {v : Y → Type 0} {e : Y → Y 
 on_lawful part l = record {
   same = λ x y. l.same (part x) (part y);
   decides = λ x y. l.decides (part x) (part y);
+}
+
+-- fewer values of the same type
+pub narrow_lawful : {X : Type 0} {v w : X → Type 0} {e : X → X → Bool} {c : X → List ℕ}
+    → ((x : X) → w x → v x) → IsLawful v e c → IsLawful w e c
+narrow_lawful wider l = record {
+  same = λ x y p q. l.same x y (wider x p) (wider y q);
+  decides = λ x y s t p q. l.decides x y s t (wider x p) (wider y q);
 }
 
 -- the concatenation of two contents

@@ -1,17 +1,19 @@
 //! Content hashing: a prefix-free serialization of values, streamed into a digest.
-ghost use Rattle.std.specs.Prelude.{◌≡◌, ℕ, ◌<◌, ◌^◌, ◌++◌, List, [], ◌∷◌, length, OnOk, OnErr, IfOk, ⊤, FitsSigned, ◌↔◌, true};
+ghost use Rattle.std.specs.Prelude.{◌≡◌, ℕ, ◌<◌, ◌^◌, ◌++◌, List, [], ◌∷◌, length, OnOk, OnErr, IfOk, IsTrue, ⊤, FitsSigned, ◌↔◌, true};
 ghost use Rattle.std.specs.Prelude.{map as map_of};
 ghost use Rattle.std.specs.Map.Iter.{deref, deref_pair};
+ghost use Rattle.std.specs.BTreeMap.{IsOrdered};
 ghost use Rattle.std.specs.HashMap.{IsUnique};
 ghost use Rattle.std.specs.HashSet.{IsUnique as HasUniqueKeys};
 ghost use Rattle.std.specs.Ordering.{on};
 ghost use Rattle.jj_content.specs.Blake2b.{blake2b};
 ghost use Rattle.jj_content.specs.Blake2bState.{HasAbsorbed};
 ghost use Rattle.std.specs.Int.{w32, w64};
+ghost use Rattle.std.specs.Str.{IsUtf8};
 ghost use Rattle.std.specs.String.{string_bytes};
 ghost use Rattle.std.specs.Vec.Iter.{into_iter_items, into_iter_len};
 ghost use Rattle.jj_content.specs.Content.{Absorbs, AbsorbsPrefix, IsLawful, AreValues, IsOptionOf, bool_content, u32_content, u64_content, i32_content, i64_content, list_content, string_content, option_content, entry_content, insertion_sort, map_content, set_content};
-ghost use Rattle.jj_content.specs.PrefixFreeProofs.{unit_lawful, bool_lawful, u8_lawful, u32_lawful, u64_lawful, i32_lawful, i64_lawful, string_lawful, list_lawful, option_lawful, on_lawful, both_lawful};
+ghost use Rattle.jj_content.specs.PrefixFreeProofs.{unit_lawful, bool_lawful, u8_lawful, u32_lawful, u64_lawful, i32_lawful, i64_lawful, string_lawful, list_lawful, option_lawful, on_lawful, both_lawful, narrow_lawful};
 ghost use Rattle.jj_content.specs.HashTableProofs.{hash_map_lawful, hash_set_lawful};
 
 use crate::blake2b::Blake2b512;
@@ -190,11 +192,12 @@ impl ContentHash for &str {
 }
 
 impl ContentHash for String {
-    ghost is_value = { λ s. length (string_bytes s) < 2 ^ 64 };
+    ghost is_value = { λ s. IsUtf8 (string_bytes s) × (length (string_bytes s) < 2 ^ 64) };
 
     ghost content = { λ s. string_content (string_bytes s) };
 
-    ghost lawful = { on_lawful (λ s. string_bytes s) string_lawful };
+    ghost lawful = { narrow_lawful (λ _ value. value.1)
+        (on_lawful (λ s. string_bytes s) string_lawful) };
 
     fn hash<D: DigestUpdate>(&self, _alloc: Global, state: &mut D) -> Result<(), AllocError> {
         hash_str(self.as_str(), state);
@@ -287,13 +290,14 @@ pub fn hash_three<A: ContentHash, B: ContentHash, C: ContentHash, D: DigestUpdat
 }
 
 impl<K: ContentHash + Ord, V: ContentHash> ContentHash for BTreeMap<K, V> {
-    ghost is_value = { λ m. AreValues (λ e. K.is_value e.0 × V.is_value e.1) m.entries };
+    ghost is_value = { λ m. IsOrdered K.cmp m
+        × AreValues (λ e. K.is_value e.0 × V.is_value e.1) m.entries };
 
     ghost content = { λ m. list_content (entry_content K.content V.content) m.entries };
 
-    ghost lawful = { on_lawful (λ m. m.entries)
+    ghost lawful = { narrow_lawful (λ _ value. value.1) (on_lawful (λ m. m.entries)
         (list_lawful (both_lawful (on_lawful (λ e. e.0) K.lawful)
-        (on_lawful (λ e. e.1) V.lawful))) };
+        (on_lawful (λ e. e.1) V.lawful)))) };
 
     #[tactic(auto, unfolding(crate::specs::Content::list_content, crate::specs::Content::u64_content))]
     fn hash<D: DigestUpdate>(&self, alloc: Global, state: &mut D) -> Result<(), AllocError> {
@@ -479,6 +483,42 @@ pub fn blake2b_hash<T: ContentHash>(alloc: Global, x: &T) -> Result<[u8; 64], Al
     let mut hasher = Blake2b512::new();
     x.hash(alloc, &mut hasher)?;
     Ok(hasher.finalize())
+}
+
+// Collects the hashed bytes. `is_complete` is false after an allocation failure.
+#[derive(Drop)]
+struct CollectedBytes {
+    bytes: Vec<u8>,
+    is_complete: bool,
+}
+
+impl DigestUpdate for CollectedBytes {
+    ghost absorbed = { λ collected bytes. IsTrue collected.is_complete
+        → collected.bytes.items ≡ bytes };
+
+    fn update(&mut self, bytes: &[u8]) {
+        if self.is_complete && self.bytes.extend_from_slice(bytes).is_err() {
+            self.is_complete = false;
+        }
+    }
+}
+
+/// Returns the content of `value`, the bytes that its hash digests. Returns an error if memory runs
+/// out.
+pub fn content_of<T: ContentHash>(alloc: Global, value: &T) -> Result<Vec<u8>, AllocError>
+    ensures bytes { IfOk result (λ bytes. bytes.items ≡ T.content value.now) }
+    ensures value { OnOk result (T.is_value value.now) }
+{
+    let mut collected = CollectedBytes {
+        bytes: Vec::new(alloc),
+        is_complete: true,
+    };
+    value.hash(alloc, &mut collected)?;
+    if collected.is_complete {
+        Ok(collected.bytes)
+    } else {
+        Err(AllocError)
+    }
 }
 
 /// Two values of one type have the same content if and only if they are equal.
