@@ -72,6 +72,7 @@ impl RepoPathComponentBuf {
     pub fn new(value: String) -> Result<RepoPathComponentBuf, InvalidNewRepoPathError>
         ensures ok { IfOk result (λ name. name ≡ string_bytes value) }
         ensures valid { IsTrue (is_name (string_bytes value)) → IsOk result }
+        ensures only_valid { IsOk result → IsTrue (is_name (string_bytes value)) }
         ensures error { IfErr result (IsStringError (is_name (string_bytes value))
             (string_bytes value)) }
     {
@@ -111,6 +112,7 @@ impl<'a> RepoPathComponent<'a> {
     ) -> Result<RepoPathComponent<'a>, InvalidNewRepoPathError>
         ensures ok { IfOk result (λ name. name_of name ≡ value.now) }
         ensures valid { IsTrue (is_name value.now) → IsOk result }
+        ensures only_valid { IsOk result → IsTrue (is_name value.now) }
         ensures error { IfErr result (IsCopiedStringError (is_name value.now) value.now) }
     {
         if is_valid_repo_path_component_str(value) {
@@ -159,6 +161,7 @@ impl<'a> RepoPath<'a> {
     ) -> Result<RepoPath<'a>, InvalidNewRepoPathError>
         ensures ok { IfOk result (λ path. path_of path ≡ components value.now) }
         ensures valid { IsTrue (is_path_string value.now) → IsOk result }
+        ensures only_valid { IsOk result → IsTrue (is_path_string value.now) }
         ensures error { IfErr result (IsCopiedStringError (is_path_string value.now) value.now) }
     {
         if is_valid_repo_path_str(value) {
@@ -385,6 +388,7 @@ impl RepoPathBuf {
     pub fn from_internal_string(value: String) -> Result<RepoPathBuf, InvalidNewRepoPathError>
         ensures ok { IfOk result (λ path. path ≡ components (string_bytes value)) }
         ensures valid { IsTrue (is_path_string (string_bytes value)) → IsOk result }
+        ensures only_valid { IsOk result → IsTrue (is_path_string (string_bytes value)) }
         ensures error { IfErr result (IsStringError (is_path_string (string_bytes value))
             (string_bytes value)) }
     {

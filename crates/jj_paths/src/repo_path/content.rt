@@ -1,10 +1,10 @@
 //! Content hashing and JSON serialization of paths and components, as strings.
-ghost use Rattle.std.specs.Prelude.{◌≡◌, ◌<◌, ◌^◌, length, OnOk, OnErr, ⊤};
+ghost use Rattle.std.specs.Prelude.{◌≡◌, OnOk, OnErr, ⊤};
 ghost use Rattle.serde_json.specs.Data.{string};
 ghost use Rattle.jj_content.specs.Content.{Absorbs, AbsorbsPrefix, IsLawful, string_content};
 ghost use Rattle.jj_content.specs.Json.{IsJsonResult};
-ghost use Rattle.jj_content.specs.PrefixFreeProofs.{on_lawful, string_lawful};
-ghost use Rattle.jj_paths.specs.Contents.{IsShortPath, path_content, path_lawful};
+ghost use Rattle.jj_content.specs.PrefixFreeProofs.{on_lawful};
+ghost use Rattle.jj_paths.specs.Contents.{IsShortName, name_lawful, IsShortPath, path_content, path_lawful};
 ghost use Rattle.jj_paths.specs.Names.{name_of, path_of};
 ghost use Rattle.jj_paths.specs.Paths.{path_string};
 
@@ -14,11 +14,11 @@ use serde_json::Value;
 use std::alloc::{AllocError, Global};
 
 impl ContentHash for RepoPathComponentBuf {
-    ghost is_value = { λ name. length name < 2 ^ 64 };
+    ghost is_value = { IsShortName };
 
     ghost content = { string_content };
 
-    ghost lawful = { string_lawful };
+    ghost lawful = { name_lawful };
 
     fn hash<D: DigestUpdate>(&self, alloc: Global, state: &mut D) -> Result<(), AllocError> {
         ContentHash::hash(&self.value, alloc, state)
@@ -26,14 +26,15 @@ impl ContentHash for RepoPathComponentBuf {
 }
 
 impl<'a> ContentHash for RepoPathComponent<'a> {
-    ghost is_value = { λ name. length (name_of name) < 2 ^ 64 };
+    ghost is_value = { λ name. IsShortName (name_of name) };
 
     ghost content = { λ name. string_content (name_of name) };
 
-    ghost lawful = { on_lawful name_of string_lawful };
+    ghost lawful = { on_lawful name_of name_lawful };
 
     fn hash<D: DigestUpdate>(&self, alloc: Global, state: &mut D) -> Result<(), AllocError> {
-        ContentHash::hash(&self.value, alloc, state)
+        let text = self.as_internal_str();
+        ContentHash::hash(&text, alloc, state)
     }
 }
 
@@ -57,7 +58,8 @@ impl<'a> ContentHash for RepoPath<'a> {
     ghost lawful = { on_lawful path_of path_lawful };
 
     fn hash<D: DigestUpdate>(&self, alloc: Global, state: &mut D) -> Result<(), AllocError> {
-        ContentHash::hash(&self.value, alloc, state)
+        let text = self.as_internal_file_string();
+        ContentHash::hash(&text, alloc, state)
     }
 }
 
