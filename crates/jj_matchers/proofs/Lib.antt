@@ -16,3 +16,4 @@ pub mod PatternOrder
 pub mod FoundMarks
 pub mod AcceptedPaths
 pub mod EmptyVisits
+pub mod Singles

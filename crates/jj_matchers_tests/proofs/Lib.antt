@@ -1,4 +1,3 @@
-pub mod Singles
 pub mod FoundFiles
 pub mod Prefixes
 pub mod OneGlob

@@ -1,23 +1,14 @@
 -- A walk with one glob in a directory finds the marks below the directory whose rest it matches.
 use Rattle.std.proofs.Common.{◌≡◌, Bool, true, false, List, [], ◌∷◌, ◌++◌, Contains, ap, sym, subst, ◌∙◌}
 use Rattle.std.specs.Prelude.{◌↔◌}
-use Rattle.jj_paths.specs.Paths.{Name, Path, path_string}
+use Rattle.jj_paths.specs.Paths.{Name, Path}
 use Rattle.jj_paths.specs.Tree.{Tree}
-use Rattle.jj_globs.specs.GlobMeaning.{GlobSpec, IsMatch}
+use Rattle.jj_globs.specs.GlobMeaning.{GlobSpec}
 use Rattle.jj_matchers.specs.Marks.{IsMarkedTree}
 use Rattle.jj_matchers.specs.Walk.{files_of}
-use Rattle.jj_matchers.specs.Patterns.{Patterns, IsAccepted, is_accepted}
+use Rattle.jj_matchers.specs.Patterns.{Patterns, is_accepted}
 use Rattle.jj_matchers.specs.Laws.{FindsMarks}
-use Rattle.jj_matchers_tests.proofs.Singles.{any_one, one_any}
-
--- the path is below the directory, and the glob matches the rest
-abbrev pub LiesBelow : Path → GlobSpec → Path → Type 0
-LiesBelow dir glob path = (name : Name) × (rest : Path) × (path ≡ dir ++ name ∷ rest)
-    × IsMatch glob (path_string (name ∷ rest))
-
--- the set of one pattern
-abbrev pub one_pattern : Path → GlobSpec → Patterns
-one_pattern dir glob = record { prefix_paths = false; patterns = (dir, glob) ∷ [] }
+use Rattle.jj_matchers.proofs.Singles.{HasMatchesOf, LiesBelow, accepts_one, one_pattern}
 
 -- the set with one more pattern
 abbrev pub with_pattern : Patterns → Path → GlobSpec → Patterns
@@ -32,18 +23,14 @@ no_root : (dir : Path) (name : Name) (rest : Path) → dir ++ name ∷ rest ≡ 
 no_root [] name rest e = cc
 no_root (d ∷ dir) name rest e = cc
 
--- the set has exactly the paths that the other set's patterns match
-abbrev pub HasMatchesOf : Patterns → Patterns → Type 0
-HasMatchesOf own set = (path : Path) → (is_accepted own path ≡ true) ↔ IsAccepted set path
-
 module _ (set : Patterns) (dir : Path) (glob : GlobSpec) (accepts : HasMatchesOf set (one_pattern dir glob)) where
   -- the files that a walk with it finds
   pub found_by_glob : (marks : List Path) (tree : Tree Bool) (found : List Path) → FindsMarks → IsMarkedTree marks tree → found ≡ files_of (is_accepted set) tree
       → (path : Path) → Contains found path ↔ (Contains marks path × LiesBelow dir glob path)
   found_by_glob marks tree found finds made is path =
       let files = finds marks tree made (is_accepted set) path in
-      let Below : Path × GlobSpec → Type 0 = λ pattern. LiesBelow pattern.0 pattern.1 path in (
-        (λ h. let file = files.0 (subst (λ l. Contains l path) is h) in (file.0, any_one Below (dir, glob) ((accepts path).0 file.2))),
+      let decides = accepts_one set dir glob path accepts in (
+        (λ h. let file = files.0 (subst (λ l. Contains l path) is h) in (file.0, decides.0 file.2)),
         (λ (marked, below). subst (λ l. Contains l path) (sym is)
-            (files.1 (marked, (λ root. no_root dir below.0 below.1 (sym below.2 ∙ root)), (accepts path).1 (one_any Below (dir, glob) below)))),
+            (files.1 (marked, (λ root. no_root dir below.0 below.1 (sym below.2 ∙ root)), decides.1 below))),
       )

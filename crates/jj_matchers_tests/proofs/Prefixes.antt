@@ -1,6 +1,6 @@
 -- Walks with the difference of two sets of one prefix each.
 use Rattle.std.proofs.Common.{◌≡◌, ◌≢◌, Bool, true, false, ◌&&◌, not, List, [], ◌∷◌, Contains, refl, ap, sym, subst, ◌∙◌}
-use Rattle.std.specs.Prelude.{◌↔◌, Any}
+use Rattle.std.specs.Prelude.{◌↔◌}
 use mathlib.Core.Bool.{false≢true}
 use Rattle.std.proofs.lemmas.Bool.{and_from, and_parts, false_from_ne_true}
 use Rattle.jj_paths.specs.Paths.{Path, IsBelow}
@@ -9,26 +9,22 @@ use Rattle.jj_matchers.specs.Marks.{IsMarkedTree}
 use Rattle.jj_matchers.specs.Walk.{files_of}
 use Rattle.jj_matchers.specs.PathLists.{has_prefix}
 use Rattle.jj_matchers.specs.Laws.{FindsMarks}
-use Rattle.jj_matchers_tests.proofs.Singles.{any_one, one_any}
+use Rattle.jj_matchers.proofs.Singles.{HasBelow, one_prefix}
 
 not_false : (b : Bool) → not b ≡ true → b ≡ false
 not_false true e = absurd (false≢true e)
 not_false false e = refl
 
--- the set of prefixes has exactly the paths at or below one
-abbrev pub HasBelow : List Path → Path → Type 0
-HasBelow prefixes base = (path : Path) → (has_prefix prefixes path ≡ true) ↔ Any (IsBelow path) (base ∷ [])
-
 -- membership in the difference
 pub one_less_another : (wanted unwanted : List Path) (dir without path : Path) → HasBelow wanted dir → HasBelow unwanted without
     → ((has_prefix wanted path && not (has_prefix unwanted path)) ≡ true) ↔ (IsBelow path dir × (¬ IsBelow path without))
 one_less_another wanted unwanted dir without path first second =
-    let inside = first path in
-    let outside = second path in (
+    let inside = one_prefix wanted dir path first in
+    let outside = one_prefix unwanted without path second in (
       (λ h. let parts = and_parts (has_prefix wanted path) (not (has_prefix unwanted path)) h in
-          (any_one (IsBelow path) dir (inside.0 parts.0), λ below. false≢true (sym (not_false (has_prefix unwanted path) parts.1) ∙ outside.1 (one_any (IsBelow path) without below)))),
-      (λ (in', out). and_from (has_prefix wanted path) (not (has_prefix unwanted path)) (inside.1 (one_any (IsBelow path) dir in'))
-          (ap not (false_from_ne_true (has_prefix unwanted path) (λ e. out (any_one (IsBelow path) without (outside.0 e)))))),
+          (inside.0 parts.0, λ below. false≢true (sym (not_false (has_prefix unwanted path) parts.1) ∙ outside.1 below))),
+      (λ (in', out). and_from (has_prefix wanted path) (not (has_prefix unwanted path)) (inside.1 in')
+          (ap not (false_from_ne_true (has_prefix unwanted path) (λ e. out (outside.0 e))))),
     )
 
 -- the files that a walk with the difference finds

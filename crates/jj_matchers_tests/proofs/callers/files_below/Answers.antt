@@ -1,6 +1,7 @@
 use Rattle.std.proofs.Common.{subst, sym}
 use Rattle.jj_paths.specs.Names.{path_of}
-use Rattle.jj_matchers_tests.proofs.Prefixes.{HasBelow, found_below}
+use Rattle.jj_matchers.proofs.Singles.{HasBelow}
+use Rattle.jj_matchers_tests.proofs.Prefixes.{found_below}
 use Rattle.jj_matchers_tests.proofs.callers.files_below.Goals as goal
 
 pub returns-clause-found : goal.returns-clause-found

@@ -1,6 +1,7 @@
 use Rattle.std.proofs.Common.{subst}
 use Rattle.jj_paths.specs.Names.{path_of}
-use Rattle.jj_matchers_tests.proofs.OneGlob.{HasMatchesOf, one_added, found_by_glob}
+use Rattle.jj_matchers.proofs.Singles.{HasMatchesOf}
+use Rattle.jj_matchers_tests.proofs.OneGlob.{one_added, found_by_glob}
 use Rattle.jj_matchers_tests.proofs.callers.files_matching.Goals as goal
 
 pub returns-clause-found : goal.returns-clause-found
