@@ -1,9 +1,13 @@
 //! Laws of merges. Each function does nothing, and its contract is the law.
-ghost use Rattle.std.specs.Prelude.{◌≡◌, ◌<◌, ℕ, List, length, slice_get};
+ghost use Rattle.std.specs.Prelude.{◌≡◌, ◌<◌, ◌↔◌, ◌⊎◌, ◌∷◌, [], ℕ, IsTrue, List, length, slice_get};
 ghost use Rattle.std.specs.List.{range_with_len};
 ghost use Rattle.jj_merges.specs.Merge.{HaveSameCounts, IsDisjoint, IsOdd};
 ghost use Rattle.jj_merges.specs.Simplify.{at_indices, simplified_indices};
 ghost use Rattle.jj_merges.specs.Cancellation.{IsCancellation};
+ghost use Rattle.jj_merges.specs.Resolution.{ResolvesTo};
+ghost use Rattle.jj_merges.specs.declared.merge.SameChange.{SameChange};
+
+use crate::merge::SameChange;
 
 /// Laws of the indices that `Merge::simplify` keeps, and of the terms at these indices.
 ///
@@ -29,4 +33,20 @@ pub fn simplified_indices_laws<T: PartialEq>()
         → k < length (at_indices m (simplified_indices T.eq m)) → (j : ℕ)
         × (slice_get (at_indices m (simplified_indices T.eq m)) k ≡ slice_get m j)
         × (slice_get (at_indices labels (simplified_indices T.eq m)) k ≡ slice_get labels j) }
+{}
+
+/// The values that a three-way merge `[left, base, right]` resolves to.
+///
+/// - `keep`: the side that changed, if the other is equal to the base.
+/// - `accept`: also a change that both sides made.
+pub fn three_way_laws<T: Eq>()
+    ensures keep { (left base right v : T)
+        → ResolvesTo T.eq SameChange.Keep (left ∷ base ∷ right ∷ []) v
+        ↔ ((IsTrue (T.eq base left) × IsTrue (T.eq v right))
+        ⊎ (IsTrue (T.eq base right) × IsTrue (T.eq v left))) }
+    ensures accept { (left base right v : T)
+        → ResolvesTo T.eq SameChange.Accept (left ∷ base ∷ right ∷ []) v
+        ↔ ((IsTrue (T.eq base left) × IsTrue (T.eq v right))
+        ⊎ (IsTrue (T.eq base right) × IsTrue (T.eq v left))
+        ⊎ (IsTrue (T.eq left right) × IsTrue (T.eq v left))) }
 {}

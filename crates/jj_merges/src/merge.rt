@@ -38,7 +38,7 @@ use std::default::MadeWith;
 use std::marker::Model;
 use std::slice;
 use storage::{Terms, into_single};
-pub use trivial::trivial_merge;
+pub use trivial::{three_way, trivial_merge};
 
 /// How to resolve a merge whose sides all made the same change: `Keep` leaves it unresolved, and
 /// `Accept` resolves it to that change.

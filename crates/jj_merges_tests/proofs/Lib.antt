@@ -1,1 +1,2 @@
 mod KeptLabels
+mod ThreeStrings

@@ -1,13 +1,13 @@
 //! Proved callers: contracts of merges at concrete types.
-ghost use Rattle.std.specs.Prelude.{◌≡◌, ℕ, ◌/◌, ◌<◌, ◌⊎◌, [], IfOk, MatchOption, length, map, nat_eq, slice_get};
+ghost use Rattle.std.specs.Prelude.{◌≡◌, ◌≢◌, ℕ, ◌/◌, ◌<◌, ◌⊎◌, ◌∷◌, [], IfOk, MatchOption, length, map, nat_eq, slice_get};
 ghost use Rattle.std.specs.Prelude.{string_bytes, string_eq};
 ghost use Rattle.jj_merges.specs.Counts.{distinct, sum_if};
 ghost use Rattle.jj_merges.specs.Merge.{HaveSameCounts, IsDisjoint, signed_count};
 ghost use Rattle.jj_merges.specs.Resolution.{ResolvesTo};
 
 use jj_merges::conflict_labels::ConflictLabels;
-use jj_merges::laws::simplified_indices_laws;
-use jj_merges::merge::{Merge, SameChange};
+use jj_merges::laws::{simplified_indices_laws, three_way_laws};
+use jj_merges::merge::{Merge, SameChange, three_way};
 use std::alloc::{AllocError, Global};
 
 /// Divides each term by ten. The signed count of a quotient is the sum of those of the distinct
@@ -38,6 +38,37 @@ pub fn resolve_accepting(strings: &Merge<String>) -> Option<&String>
         (λ s. ResolvesTo string_eq SameChange.Accept strings.now s.now) }
 {
     strings.resolve_trivial(SameChange::Accept)
+}
+
+/// Merges three strings: returns the side that changed, `ours` if both sides are equal, and `None`
+/// if all three differ.
+pub fn merge_strings<'a>(
+    base: &'a String,
+    ours: &'a String,
+    theirs: &'a String,
+) -> Option<&'a String>
+    ensures { MatchOption result
+        ((string_bytes base.now ≢ string_bytes ours.now)
+        × (string_bytes base.now ≢ string_bytes theirs.now)
+        × (string_bytes ours.now ≢ string_bytes theirs.now))
+        (λ s. ((string_bytes base.now ≡ string_bytes ours.now) × (s.now ≡ theirs.now))
+        ⊎ ((string_bytes base.now ≡ string_bytes theirs.now) × (s.now ≡ ours.now))
+        ⊎ ((string_bytes ours.now ≡ string_bytes theirs.now) × (s.now ≡ ours.now))) }
+{
+    three_way(base, ours, theirs)
+}
+
+/// Resolves a conflict of strings without accepting equal changes: of three terms, the side that
+/// changed, if the other is equal to the base.
+pub fn resolve_keeping(strings: &Merge<String>) -> Option<&String>
+    ensures { (left base right : _) → strings.now ≡ left ∷ base ∷ right ∷ [] → MatchOption result
+        ((string_bytes base ≢ string_bytes left) × (string_bytes base ≢ string_bytes right))
+        (λ s. ((string_bytes base ≡ string_bytes left) × (string_bytes s.now ≡ string_bytes right))
+        ⊎ ((string_bytes base ≡ string_bytes right)
+        × (string_bytes s.now ≡ string_bytes left))) }
+{
+    three_way_laws::<String>();
+    strings.resolve_trivial(SameChange::Keep)
 }
 
 /// Cancels equal strings. Signed counts are unchanged, and no string remains on both sides.

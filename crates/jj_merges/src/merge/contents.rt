@@ -1,8 +1,8 @@
 //! Content hashing and JSON serialization of merges: both are those of the list of terms.
 ghost use Rattle.std.specs.Prelude.{All};
-ghost use Rattle.jj_content.specs.Content.{AreValues, list_content};
+ghost use Rattle.jj_content.specs.Content.{list_content};
 ghost use Rattle.jj_content.specs.Json.{IsJsonList};
-ghost use Rattle.jj_content.specs.PrefixFreeProofs.{list_lawful};
+ghost use Rattle.jj_merges.specs.Contents.{IsMergeOf, merge_lawful};
 
 use super::Merge;
 use jj_content::content_hash::{ContentHash, DigestUpdate, ToJson, ToJsonError};
@@ -10,11 +10,11 @@ use serde_json::Value;
 use std::alloc::{AllocError, Global};
 
 impl<T: ContentHash> ContentHash for Merge<T> {
-    ghost is_value = { AreValues T.is_value };
+    ghost is_value = { IsMergeOf T.is_value };
 
     ghost content = { list_content T.content };
 
-    ghost lawful = { list_lawful T.lawful };
+    ghost lawful = { merge_lawful T.lawful };
 
     fn hash<D: DigestUpdate>(&self, alloc: Global, state: &mut D) -> Result<(), AllocError> {
         ContentHash::hash(&self.as_slice(), alloc, state)

@@ -1,6 +1,6 @@
 //! Trivial resolution: the outcome of a merge that the signed counts of its terms decide, without
 //! looking inside the values.
-ghost use Rattle.std.specs.Prelude.{[], ◌∷◌, ◌⊎◌, ◌≡◌, ◌≢◌, ℕ, ◌+◌, ◌<◌, ◌↔◌, length, count_by, IsTrue, IfSome, IfNone, Contains};
+ghost use Rattle.std.specs.Prelude.{[], ◌∷◌, ◌⊎◌, ◌≡◌, ◌≢◌, ℕ, ◌+◌, ◌<◌, ◌↔◌, length, count_by, IsTrue, IsFalse, IfSome, IfNone, Contains};
 ghost use Rattle.std.specs.List.{list_any};
 ghost use Rattle.jj_merges.specs.Merge.{IsOdd, adds, removes};
 ghost use Rattle.jj_merges.specs.Resolution.{ResolvesTo};
@@ -125,6 +125,29 @@ pub fn trivial_merge<T: Eq>(values: &[T], same_change: SameChange) -> Option<&T>
         [first, remove, last] => resolve_three_way(first, remove, last, same_change),
         _ => resolve_by_counts(values, same_change),
     }
+}
+
+/// Resolves a three-way merge of values: returns the side that changed if the other is equal to
+/// `base`, and `left` if both sides are equal. For example `three_way("a", "a", "b")` and
+/// `three_way("a", "b", "b")` are `"b"`.
+///
+/// Returns `None` for a conflict: all three differ. At most three comparisons; does not allocate.
+/// `trivial_merge` of `[left, base, right]` with `SameChange::Keep` does not resolve equal changes.
+pub fn three_way<'a, T: Eq>(base: &'a T, left: &'a T, right: &'a T) -> Option<&'a T>
+    ensures resolved { IfSome result (λ v.
+        (IsTrue (T.eq base.now left.now) × (v.now ≡ right.now))
+        ⊎ (IsTrue (T.eq base.now right.now) × (v.now ≡ left.now))
+        ⊎ (IsTrue (T.eq left.now right.now) × (v.now ≡ left.now))) }
+    ensures conflict { IfNone result (IsFalse (T.eq base.now left.now)
+        × IsFalse (T.eq base.now right.now) × IsFalse (T.eq left.now right.now)) }
+{
+    if base == left {
+        return Some(right);
+    }
+    if base == right || left == right {
+        return Some(left);
+    }
+    None
 }
 
 impl<T: Eq> Merge<T> {
