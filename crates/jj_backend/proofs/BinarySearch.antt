@@ -35,7 +35,7 @@ comparisons_rise q (e ∷ es) sorted (suc i) zero d le lt = absurd (omega arith)
 comparisons_rise q (e ∷ es) sorted (suc i) (suc j) d le lt = comparisons_rise q es (and_parts _ _ sorted).1 i j d (omega arith) (omega arith)
 
 -- value_at finds the value of the entry at index i, by its name
-value-at : (es : Entries) (name : Name) (i : ℕ) (d : Name × TreeValue) → is_sorted name_cmp es ≡ true → i < length es → (get_or es i d).0 ≡ name → value_at es name ≡ Some (get_or es i d).1
+pub value-at : (es : Entries) (name : Name) (i : ℕ) (d : Name × TreeValue) → is_sorted name_cmp es ≡ true → i < length es → (get_or es i d).0 ≡ name → value_at es name ≡ Some (get_or es i d).1
 value-at [] name i d sorted lt is = absurd (omega arith)
 value-at (e ∷ es) name zero d sorted lt is = rw ((bytes_eq-Decides name e.0).1 (sym is))
 value-at (e ∷ es) name (suc i) d sorted lt is =
@@ -43,7 +43,7 @@ value-at (e ∷ es) name (suc i) d sorted lt is =
     rw (differs e.0 name Less less (less_is_unequal Less refl)) (value-at es name i d (and_parts _ _ sorted).1 (omega arith) is)
 
 -- value_at finds nothing if no entry has the name
-value-absent : (es : Entries) (name : Name) (d : Name × TreeValue) → ((j : ℕ) → j < length es → bytes_eq name (get_or es j d).0 ≡ false) → value_at es name ≡ None
+pub value-absent : (es : Entries) (name : Name) (d : Name × TreeValue) → ((j : ℕ) → j < length es → bytes_eq name (get_or es j d).0 ≡ false) → value_at es name ≡ None
 value-absent [] name d other = refl
 value-absent (e ∷ es) name d other = rw (other 0 (omega arith)) (value-absent es name d (λ j lt. other (suc j) (omega arith)))
 
@@ -52,7 +52,7 @@ abbrev pub IsSearchResult : Entries → Name → Result ℕ ℕ → Type 0
 IsSearchResult es q (Ok at) = IsEntryAt es q at
 IsSearchResult es q (Err at) = value_at es q ≡ None
 
-any_entry : (es : Entries) (q : Name) → ((d : Name × TreeValue) → value_at es q ≡ None) → value_at es q ≡ None
+pub any_entry : (es : Entries) (q : Name) → ((d : Name × TreeValue) → value_at es q ≡ None) → value_at es q ≡ None
 any_entry [] q f = refl
 any_entry (e ∷ es) q f = f e
 

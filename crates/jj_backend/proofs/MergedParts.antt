@@ -3,7 +3,9 @@ use Rattle.std.proofs.Common.{◌≡◌, ℕ, ◌<◌, ◌^◌, List, [], ◌∷
 use Rattle.std.specs.List.{AllZip, flat_map}
 use Rattle.std.proofs.lemmas.List.Elements.{All-map}
 use Rattle.std.proofs.lemmas.List.{length-map}
-use Rattle.jj_content.specs.Content.{list_content, u64_content, AreValues}
+use Rattle.jj_content.specs.Content.{list_content, u64_content}
+use Rattle.jj_merges.specs.Contents.{IsMergeOf}
+use Rattle.jj_merges.specs.Merge.{IsOdd}
 
 module _ {X Y : Type 0} (f : X → Y) where
   pub map-clones : (xs ys : List X) → AllZip (λ x y. f y ≡ f x) xs ys → map f ys ≡ map f xs
@@ -23,8 +25,9 @@ module _ {X Y : Type 0} (f : X → Y) where
       let items = flat_map-map content xs in
       λ i. u64_content (long i) ++ items i
 
--- the length is below 2 ^ 64, and each item satisfies P
-pub are_values-map : {X Y : Type 0} (f : X → Y) (P : Y → Type 0) (xs : List X) → AreValues (λ x. P (f x)) xs → AreValues P (map f xs)
-are_values-map f P xs values =
-    let short : length (map f xs) < 2 ^ 64 = rw (length-map xs f) values.0 in
-    (short, All-map P f xs values.1)
+-- the length is odd and below 2 ^ 64, and each item satisfies P
+pub is_merge_of-map : {X Y : Type 0} (f : X → Y) (P : Y → Type 0) (xs : List X) → IsMergeOf (λ x. P (f x)) xs → IsMergeOf P (map f xs)
+is_merge_of-map f P xs terms =
+    let odd : IsOdd (length (map f xs)) = rw (length-map xs f) terms.0 in
+    let short : length (map f xs) < 2 ^ 64 = rw (length-map xs f) terms.1.0 in
+    (odd, (short, All-map P f xs terms.1.1))

@@ -1,11 +1,14 @@
--- The content bytes of records: the concatenated bytes of their fields. `Is..` are the values whose
--- lists and strings have lengths below 2 ^ 64.
+-- The content bytes of records: the concatenated bytes of their fields. `Is..` are the valid
+-- values: lists and strings have lengths below 2 ^ 64, strings are UTF-8, and merges have an odd
+-- length.
 -- Cited by contracts of public items: IsCommit, IsCopyHistory, IsMillis, IsSecureSig, IsSignature,
 -- IsTimestamp, bytes_content, commit_content, copy_history_content, millis_content,
 -- secure_sig_content, signature_content, timestamp_content.
 use Rattle.std.specs.Prelude.{ℕ, ◌<◌, ◌^◌, [], ◌∷◌, List, length, ◌++◌, FitsSigned}
 use Rattle.std.specs.Int.{w32, w64}
+use Rattle.std.specs.Str.{IsUtf8}
 use Rattle.jj_content.specs.Content.{i32_content, i64_content, string_content, list_content, option_content, AreValues, IsOptionOf}
+use Rattle.jj_merges.specs.Contents.{IsMergeOf}
 use Rattle.jj_paths.specs.Contents.{IsShortPath, path_content}
 use Rattle.jj_backend.specs.Records.{SignatureValue, SecureSigValue, CopyHistoryValue, CommitValue}
 use Rattle.jj_backend.specs.declared.backend.timestamp.MillisSinceEpoch.{MillisSinceEpoch}
@@ -14,7 +17,7 @@ use Rattle.jj_backend.specs.declared.backend.timestamp.Timestamp.{Timestamp}
 -- ---- strings, and byte lists (ids and data)
 
 abbrev pub IsText : List ℕ → Type 0
-IsText text = length text < 2 ^ 64
+IsText text = IsUtf8 text × (length text < 2 ^ 64)
 
 abbrev pub AreBytes : List ℕ → Type 0
 AreBytes = AreValues (λ byte. byte < 2 ^ 8)
@@ -65,7 +68,7 @@ copy_history_content h =
 
 abbrev pub IsOrigin : CommitValue → Type 0
 IsOrigin c = AreValues AreBytes c.parents
-    × (AreValues AreBytes c.predecessors × AreValues AreBytes c.root_tree)
+    × (AreValues AreBytes c.predecessors × IsMergeOf AreBytes c.root_tree)
 
 abbrev pub origin_content : CommitValue → List ℕ
 origin_content c =
@@ -73,7 +76,7 @@ origin_content c =
     ++ (list_content bytes_content c.predecessors ++ list_content bytes_content c.root_tree)
 
 abbrev pub IsMessage : CommitValue → Type 0
-IsMessage c = AreValues IsText c.conflict_labels × (AreBytes c.change_id × IsText c.description)
+IsMessage c = IsMergeOf IsText c.conflict_labels × (AreBytes c.change_id × IsText c.description)
 
 abbrev pub message_content : CommitValue → List ℕ
 message_content c =

@@ -1,7 +1,8 @@
--- The objects of a backend, as finite maps from ids, and the effects of reads and writes.
+-- The objects of a backend, as finite maps from ids, and the effects and errors of reads and
+-- writes.
 -- Cited by contracts of public items: AddsCommit, AddsCopy, AddsFile, AddsSymlink, AddsTree,
--- IsRead, IsSigned, Objects.
-use Rattle.std.specs.Prelude.{◌≡◌, ℕ, List, Option, Some, None, if◌then◌else◌, ◌⊎◌, Result, Ok, MatchResult}
+-- IsCommitError, IsRead, IsSigned, Object, Objects.
+use Rattle.std.specs.Prelude.{◌≡◌, ℕ, List, Option, Some, None, if◌then◌else◌, ◌⊎◌, Result, Ok, Err, MatchResult}
 use Rattle.std.specs.Bool.{MatchBool}
 use Rattle.std.specs.Str.{bytes_eq}
 use Rattle.jj_backend.specs.Contents.{commit_content}
@@ -27,6 +28,14 @@ module _ {V : Type 0} where
   -- the id is unmapped, or already mapped to v
   abbrev pub IsFree : ById V → List ℕ → V → Type 0
   IsFree m id v = (m id ≡ None) ⊎ (m id ≡ Some v)
+
+-- an object of one of the five kinds
+pub data Object : Type 0 where
+  file_object : List ℕ → Object
+  symlink_object : List ℕ → Object
+  copy_object : CopyHistoryValue → Object
+  tree_object : Entries → Object
+  commit_object : CommitValue → Object
 
 -- objects of each type, by their ids
 pub record Objects : Type 0 where
@@ -77,3 +86,20 @@ IsSigned may_sign (Some signer) commit stored =
       secure_sig = Some
           (record { signed_data = unsigned_content commit; sig = sig });
     })
+
+-- ---- errors of writing a commit
+
+-- there is a signer, and it may fail for the content of the commit
+abbrev pub SignerMayFail : {S : Type 0} → (S → List ℕ → Result (List ℕ) SignError → Type 0)
+    → Option S → CommitValue → Type 0
+SignerMayFail may_sign None contents = ⊥
+SignerMayFail may_sign (Some signer) contents =
+    (why : SignError) × may_sign signer (unsigned_content contents) (Err why)
+
+-- storing the commit or its stored form may fail with e, or the signer may fail
+abbrev pub IsCommitError : {S : Type 0} → (S → List ℕ → Result (List ℕ) SignError → Type 0)
+    → (CommitValue → BackendError → Type 0) → Option S → CommitValue → BackendError → Type 0
+IsCommitError may_sign may_fail signer contents e =
+    may_fail contents e
+    ⊎ SignerMayFail may_sign signer contents
+    ⊎ ((stored : CommitValue) × IsSigned may_sign signer contents stored × may_fail stored e)

@@ -4,12 +4,13 @@
 -- copy_history_lawful, secure_sig_equiv, secure_sig_lawful, signature_equiv, signature_lawful.
 use Rattle.std.specs.Cmp.{IsEquivalence, and_equiv, on_equiv, int_eq_equiv}
 use Rattle.std.specs.Cmp.Lexicographic.{nat_list_eq_equiv, lists_equiv, options_equiv}
-use Rattle.jj_content.specs.Content.{IsLawful}
-use Rattle.jj_content.specs.PrefixFreeProofs.{on_lawful, both_lawful, string_lawful, list_lawful, option_lawful, u8_lawful, i32_lawful, i64_lawful}
+use Rattle.jj_content.specs.Content.{IsLawful, string_content}
+use Rattle.jj_content.specs.PrefixFreeProofs.{on_lawful, both_lawful, narrow_lawful, string_lawful, list_lawful, option_lawful, u8_lawful, i32_lawful, i64_lawful}
+use Rattle.jj_merges.specs.Contents.{merge_lawful}
 use Rattle.jj_paths.specs.Contents.{path_lawful}
 use Rattle.jj_paths.specs.Orders.{path_eq_equiv}
 use Rattle.jj_backend.specs.Records.{timestamp_eq, signature_eq, secure_sig_eq, copy_history_eq, origin_eq, message_eq, signers_eq, commit_eq}
-use Rattle.jj_backend.specs.Contents.{AreBytes, bytes_content, IsTimestamp, timestamp_content, IsSignature, signature_content, IsSecureSig, secure_sig_content, IsCopyHistory, copy_history_content, IsOrigin, origin_content, IsMessage, message_content, AreSigners, signers_content, IsCommit, commit_content}
+use Rattle.jj_backend.specs.Contents.{AreBytes, bytes_content, IsText, IsTimestamp, timestamp_content, IsSignature, signature_content, IsSecureSig, secure_sig_content, IsCopyHistory, copy_history_content, IsOrigin, origin_content, IsMessage, message_content, AreSigners, signers_content, IsCommit, commit_content}
 use Rattle.std.specs.Str.{bytes_eq}
 
 pub timestamp_equiv : IsEquivalence timestamp_eq
@@ -58,14 +59,17 @@ commit_equiv = and_equiv origin_equiv (and_equiv message_equiv signers_equiv)
 pub bytes_lawful : IsLawful AreBytes bytes_eq bytes_content
 bytes_lawful = list_lawful u8_lawful
 
+pub text_lawful : IsLawful IsText bytes_eq string_content
+text_lawful = narrow_lawful (λ _ value. value.1) string_lawful
+
 pub timestamp_lawful : IsLawful IsTimestamp timestamp_eq timestamp_content
 timestamp_lawful = both_lawful (on_lawful (λ time. time.timestamp.0) i64_lawful)
     (on_lawful (λ time. time.tz_offset) i32_lawful)
 
 pub signature_lawful : IsLawful IsSignature signature_eq signature_content
 signature_lawful =
-    both_lawful (on_lawful (λ s. s.name) string_lawful)
-    (both_lawful (on_lawful (λ s. s.email) string_lawful)
+    both_lawful (on_lawful (λ s. s.name) text_lawful)
+    (both_lawful (on_lawful (λ s. s.email) text_lawful)
     (on_lawful (λ s. s.timestamp) timestamp_lawful))
 
 pub secure_sig_lawful : IsLawful IsSecureSig secure_sig_eq secure_sig_content
@@ -82,13 +86,13 @@ origin_lawful : IsLawful IsOrigin origin_eq origin_content
 origin_lawful =
     both_lawful (on_lawful (λ c. c.parents) (list_lawful bytes_lawful))
     (both_lawful (on_lawful (λ c. c.predecessors) (list_lawful bytes_lawful))
-    (on_lawful (λ c. c.root_tree) (list_lawful bytes_lawful)))
+    (on_lawful (λ c. c.root_tree) (merge_lawful bytes_lawful)))
 
 message_lawful : IsLawful IsMessage message_eq message_content
 message_lawful =
-    both_lawful (on_lawful (λ c. c.conflict_labels) (list_lawful string_lawful))
+    both_lawful (on_lawful (λ c. c.conflict_labels) (merge_lawful text_lawful))
     (both_lawful (on_lawful (λ c. c.change_id) bytes_lawful)
-    (on_lawful (λ c. c.description) string_lawful))
+    (on_lawful (λ c. c.description) text_lawful))
 
 signers_lawful : IsLawful AreSigners signers_eq signers_content
 signers_lawful =

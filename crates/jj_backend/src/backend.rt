@@ -26,5 +26,5 @@ pub use merged_tree_value::{
 };
 pub use signature::{SecureSig, Signature};
 pub use timestamp::{MillisSinceEpoch, Timestamp, TimestampOutOfRange};
-pub use tree::{Tree, TreeEntriesNonRecursiveIterator, TreeEntry, TreeNames};
+pub use tree::{DuplicateEntryError, Tree, TreeEntriesNonRecursiveIterator, TreeEntry, TreeNames};
 pub use tree_value::TreeValue;

@@ -1,7 +1,9 @@
 //! Proved callers of trees and of merges of tree values.
-ghost use Rattle.std.specs.Prelude.{◌≡◌, ◌++◌, [], ◌∷◌, true, false, Some, IfOk, is_some, codes, string_bytes};
+ghost use Rattle.std.specs.Prelude.{◌≡◌, ◌≤◌, ◌++◌, [], ◌∷◌, true, false, Some, IfOk, MatchResult, count_by, is_some, codes, string_bytes};
+ghost use Rattle.std.specs.Str.{bytes_eq};
 ghost use Rattle.jj_content.specs.Hex.{hex};
 ghost use Rattle.jj_paths.specs.Names.{name_of};
+ghost use Rattle.jj_paths.specs.Paths.{Name};
 ghost use Rattle.jj_backend.specs.MergedTreeValues.{are_trees, newline};
 ghost use Rattle.jj_backend.specs.Trees.{value_at};
 
@@ -10,7 +12,7 @@ use jj_backend::backend::{
 };
 use jj_merges::conflict_labels::ConflictLabels;
 use jj_merges::merge::Merge;
-use jj_paths::repo_path::RepoPathComponent;
+use jj_paths::repo_path::{RepoPathComponent, RepoPathComponentBuf};
 use std::alloc::{AllocError, Global};
 
 /// Returns whether a tree has an entry with this name.
@@ -18,6 +20,21 @@ pub fn has_name(tree: &Tree, name: RepoPathComponent<'_>) -> bool
     ensures { result ≡ is_some (value_at tree.now (name_of name.entry)) }
 {
     tree.value(name).is_some()
+}
+
+/// Creates the tree of a directory listing in any order: the value of each name is that of the
+/// listing. Returns a name that the listing has twice.
+pub fn tree_of_listing(
+    listing: Vec<(RepoPathComponentBuf, TreeValue)>,
+) -> Result<Tree, RepoPathComponentBuf>
+    ensures { MatchResult result
+        (λ tree. (name : Name) → value_at tree name ≡ value_at listing.items name)
+        (λ name. 2 ≤ count_by (λ entry. bytes_eq name entry.0) listing.items) }
+{
+    match Tree::from_entries(listing) {
+        Ok(tree) => Ok(tree),
+        Err(error) => Err(error.name),
+    }
 }
 
 /// Returns whether a merge is a tree; the contract models the merge as the list of its terms.

@@ -11,8 +11,8 @@ use Rattle.std.specs.Str.{bytes_eq}
 use Rattle.std.specs.declared.string.String.{String}
 use Rattle.std.specs.declared.vec.Vec.{Vec}
 use Rattle.jj_content.specs.Content.{IsLawful}
-use Rattle.jj_content.specs.PrefixFreeProofs.{on_lawful, both_lawful, two_then_lawful, list_lawful, option_lawful, string_lawful, bool_lawful}
-use Rattle.jj_backend.specs.RecordLaws.{bytes_lawful, timestamp_lawful}
+use Rattle.jj_content.specs.PrefixFreeProofs.{on_lawful, both_lawful, two_then_lawful, list_lawful, option_lawful, narrow_lawful, bool_lawful}
+use Rattle.jj_backend.specs.RecordLaws.{bytes_lawful, text_lawful, timestamp_lawful}
 use Rattle.jj_backend.specs.Records.{timestamp_eq}
 use Rattle.jj_stores.specs.Operations.{IsRange, range_content, AreAttributes, attributes_content, IsMetadata, metadata_content, ArePredecessors, predecessors_content, IsOperation, operation_content}
 use Rattle.jj_stores.specs.declared.op_store.operation.Operation.{Operation}
@@ -40,9 +40,9 @@ module _ {A : Type 0} where
   attributes_eq = pointwise (eq_of_both (on (λ e. e.0) text_eq) (on (λ e. e.1) text_eq))
 
   attributes_lawful : IsLawful AreAttributes attributes_eq attributes_content
-  attributes_lawful = list_lawful (both_lawful
-      (on_lawful (λ e. e.0) (on_lawful string_bytes string_lawful))
-      (on_lawful (λ e. e.1) (on_lawful string_bytes string_lawful)))
+  attributes_lawful = narrow_lawful (λ _ value. value.1) (list_lawful (both_lawful
+      (on_lawful (λ e. e.0) (on_lawful string_bytes text_lawful))
+      (on_lawful (λ e. e.1) (on_lawful string_bytes text_lawful))))
 
 abbrev pub metadata_eq : OperationMetadata → OperationMetadata → Bool
 metadata_eq =
@@ -57,11 +57,11 @@ metadata_eq =
 pub metadata_lawful : IsLawful IsMetadata metadata_eq metadata_content
 metadata_lawful =
     two_then_lawful (on_lawful (λ m. m.time) range_lawful)
-    (on_lawful (λ m. m.description) (on_lawful string_bytes string_lawful))
-    (two_then_lawful (on_lawful (λ m. m.hostname) (on_lawful string_bytes string_lawful))
-    (on_lawful (λ m. m.username) (on_lawful string_bytes string_lawful))
+    (on_lawful (λ m. m.description) (on_lawful string_bytes text_lawful))
+    (two_then_lawful (on_lawful (λ m. m.hostname) (on_lawful string_bytes text_lawful))
+    (on_lawful (λ m. m.username) (on_lawful string_bytes text_lawful))
     (both_lawful (on_lawful (λ m. m.is_snapshot) bool_lawful)
-    (both_lawful (on_lawful (λ m. m.workspace_name) (option_lawful string_lawful))
+    (both_lawful (on_lawful (λ m. m.workspace_name) (option_lawful text_lawful))
     (on_lawful (λ m. m.attributes.entries) attributes_lawful))))
 
 -- ---- operations
@@ -73,9 +73,9 @@ module _ {A : Type 0} where
       (eq_of_both (on (λ e. e.0) bytes_eq) (on (λ e. e.1.items) (pointwise bytes_eq))))
 
   predecessors_lawful : IsLawful ArePredecessors predecessors_eq predecessors_content
-  predecessors_lawful = on_lawful (λ m. m.entries)
+  predecessors_lawful = narrow_lawful (λ _ value. value.1) (on_lawful (λ m. m.entries)
       (list_lawful (both_lawful (on_lawful (λ e. e.0) bytes_lawful)
-      (on_lawful (λ e. e.1) (on_lawful (λ ids. ids.items) (list_lawful bytes_lawful)))))
+      (on_lawful (λ e. e.1) (on_lawful (λ ids. ids.items) (list_lawful bytes_lawful))))))
 
 abbrev pub operation_eq : Operation → Operation → Bool
 operation_eq =

@@ -1,8 +1,12 @@
 -- The content bytes of operations, field by field, and the root operation.
 -- Cited by contracts of public items: HasDates, IsMetadata, IsOperation, IsRange, IsRootOperation,
 -- metadata_content, operation_content, range_content.
-use Rattle.std.specs.Prelude.{◌≡◌, ℕ, pos, false, List, [], ◌++◌, None, IsSomeAnd, string_bytes}
-use Rattle.std.specs.BTreeMap.{BTreeMap}
+use Rattle.std.specs.Prelude.{◌≡◌, ℕ, pos, false, List, [], ◌++◌, None, IsSomeAnd, string_bytes, string_cmp}
+use Rattle.std.specs.BTreeMap.{BTreeMap, IsOrdered}
+use Rattle.std.specs.Cmp.Lexicographic.{slice_cmp}
+use Rattle.std.specs.List.Sorted.{IsStrictlySortedBy}
+use Rattle.std.specs.Map.{keys_of}
+use Rattle.std.specs.Ordering.{nat_cmp}
 use Rattle.std.specs.declared.string.String.{String}
 use Rattle.std.specs.declared.vec.Vec.{Vec}
 use Rattle.jj_content.specs.Content.{AreValues, IsOptionOf, bool_content, list_content, string_content, option_content, entry_content}
@@ -43,7 +47,8 @@ agent_content m =
 -- `A` is the allocator of the strings and lists
 module _ {A : Type 0} where
   abbrev pub AreAttributes : List (String A × String A) → Type 0
-  AreAttributes = AreValues (λ e. IsText (string_bytes e.0) × IsText (string_bytes e.1))
+  AreAttributes entries = IsStrictlySortedBy string_cmp (keys_of entries)
+      × AreValues (λ e. IsText (string_bytes e.0) × IsText (string_bytes e.1)) entries
 
   abbrev pub attributes_content : List (String A × String A) → List ℕ
   attributes_content = list_content (entry_content (λ s. string_content (string_bytes s))
@@ -67,7 +72,8 @@ metadata_content m = event_content m ++ (agent_content m ++ context_content m)
 -- predecessors by commit id
 module _ {A : Type 0} where
   abbrev pub ArePredecessors : BTreeMap (List ℕ) (Vec (List ℕ) A) → Type 0
-  ArePredecessors m = AreValues (λ e. AreBytes e.0 × AreValues AreBytes e.1.items) m.entries
+  ArePredecessors m = IsOrdered (slice_cmp nat_cmp) m
+      × AreValues (λ e. AreBytes e.0 × AreValues AreBytes e.1.items) m.entries
 
   abbrev pub predecessors_content : BTreeMap (List ℕ) (Vec (List ℕ) A) → List ℕ
   predecessors_content m = list_content (entry_content bytes_content

@@ -2,7 +2,8 @@
 -- Cited by contracts of public items: remote_ref_lawful, state_lawful.
 use Rattle.std.proofs.Common.{◌≡◌, ℕ, ◌++◌, List, Bool, true, refl, lit<, arith}
 use Rattle.jj_content.specs.Content.{IsLawful}
-use Rattle.jj_content.specs.PrefixFreeProofs.{on_lawful, both_lawful, list_lawful, option_lawful, u32_prefix_free}
+use Rattle.jj_content.specs.PrefixFreeProofs.{on_lawful, both_lawful, option_lawful, u32_prefix_free}
+use Rattle.jj_merges.specs.Contents.{merge_lawful}
 use Rattle.jj_backend.specs.RecordLaws.{bytes_lawful}
 use Rattle.std.specs.Cmp.{IsEquivalence, and_equiv, on_equiv}
 use Rattle.std.specs.Cmp.Lexicographic.{pointwise, nat_list_eq_equiv, lists_equiv, options_equiv}
@@ -20,7 +21,7 @@ abbrev pub target_eq : Target → Target → Bool
 target_eq = pointwise (option_eq bytes_eq)
 
 pub target_lawful : IsLawful IsTarget target_eq target_content
-target_lawful = list_lawful (option_lawful bytes_lawful)
+target_lawful = merge_lawful (option_lawful bytes_lawful)
 
 same_content : (x y : RemoteRefState) → Unit {0} → Unit {0} → ghosts.eq x y ≡ true
     → state_content x ≡ state_content y

@@ -2,8 +2,9 @@
 -- Cited by contracts of public items: IsRemoteRef, absent_ref, absent_target, remote_ref_content,
 -- state_content, tracked_target.
 use Rattle.std.specs.Prelude.{ℕ, List, [], ◌∷◌, ◌++◌, Option, Some, None}
-use Rattle.jj_content.specs.Content.{AreValues, IsOptionOf, u32_content, list_content, option_content}
+use Rattle.jj_content.specs.Content.{IsOptionOf, u32_content, list_content, option_content}
 use Rattle.jj_backend.specs.Contents.{AreBytes, bytes_content}
+use Rattle.jj_merges.specs.Contents.{IsMergeOf}
 use Rattle.jj_stores.specs.declared.op_store.ref_target.RemoteRef.{RemoteRef}
 use Rattle.jj_stores.specs.declared.op_store.ref_target.RemoteRefState.{RemoteRefState}
 use Rattle.jj_stores.specs.declared.op_store.ref_target.RemoteRefState.TheVariants.{New, Tracked}
@@ -30,7 +31,7 @@ tracked_target remote = tracked_of remote.state remote.target
 -- ---- content
 
 abbrev pub IsTarget : Target → Type 0
-IsTarget = AreValues (IsOptionOf AreBytes)
+IsTarget = IsMergeOf (IsOptionOf AreBytes)
 
 abbrev pub target_content : Target → List ℕ
 target_content = list_content (option_content bytes_content)

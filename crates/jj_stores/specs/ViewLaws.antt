@@ -7,9 +7,9 @@ use Rattle.std.specs.HashSet.{hash_set_eq}
 use Rattle.std.specs.Ordering.{eq_of_both, on}
 use Rattle.std.specs.Str.{bytes_eq}
 use Rattle.jj_content.specs.Content.{IsLawful}
-use Rattle.jj_content.specs.PrefixFreeProofs.{on_lawful, both_lawful, two_then_lawful, three_then_lawful, list_lawful, string_lawful}
+use Rattle.jj_content.specs.PrefixFreeProofs.{on_lawful, both_lawful, two_then_lawful, three_then_lawful, list_lawful, narrow_lawful}
 use Rattle.jj_content.specs.HashTableProofs.{hash_set_lawful}
-use Rattle.jj_backend.specs.RecordLaws.{bytes_lawful}
+use Rattle.jj_backend.specs.RecordLaws.{bytes_lawful, text_lawful}
 use Rattle.jj_stores.specs.RefTargetLaws.{target_eq, target_lawful, remote_ref_eq, remote_ref_lawful}
 use Rattle.jj_stores.specs.Views.{AreNamed, named_content, IsRemoteView, remote_view_content, IsView, view_content}
 use Rattle.jj_stores.specs.declared.op_store.view.RemoteView.{RemoteView}
@@ -27,8 +27,8 @@ module _ {V : Type 0} where
 
   pub named_lawful : {v : V → Type 0} {eq : V → V → Bool} {c : V → List ℕ} → IsLawful v eq c
       → IsLawful (AreNamed v) (named_eq eq) (named_content c)
-  named_lawful laws = list_lawful (both_lawful (on_lawful (λ e. e.0) string_lawful)
-      (on_lawful (λ e. e.1) laws))
+  named_lawful laws = narrow_lawful (λ _ value. value.1) (list_lawful
+      (both_lawful (on_lawful (λ e. e.0) text_lawful) (on_lawful (λ e. e.1) laws)))
 
 target_equiv : IsEquivalence target_eq
 target_equiv = lists_equiv (options_equiv nat_list_eq_equiv)

@@ -3,6 +3,8 @@
 -- view_content.
 use Rattle.std.specs.Prelude.{◌≡◌, ℕ, List, [], ◌∷◌, ◌++◌}
 use Rattle.std.specs.HashSet as set
+use Rattle.std.specs.List.Sorted.{IsStrictlySortedBy}
+use Rattle.std.specs.Map.{keys_of}
 use Rattle.std.specs.Ordering.{nat_cmp}
 use Rattle.std.specs.Cmp.Lexicographic.{slice_cmp}
 use Rattle.std.specs.Str.{bytes_eq}
@@ -12,10 +14,11 @@ use Rattle.jj_stores.specs.RefTargets.{IsTarget, target_content, IsRemoteRef, re
 use Rattle.jj_stores.specs.declared.op_store.view.RemoteView.{RemoteView}
 use Rattle.jj_stores.specs.declared.op_store.view.View.{View}
 
--- association lists from names
+-- association lists from names, whose keys ascend strictly
 module _ {V : Type 0} where
   abbrev pub AreNamed : (V → Type 0) → List (List ℕ × V) → Type 0
-  AreNamed is_value = AreValues (λ e. IsText e.0 × is_value e.1)
+  AreNamed is_value entries = IsStrictlySortedBy (slice_cmp nat_cmp) (keys_of entries)
+      × AreValues (λ e. IsText e.0 × is_value e.1) entries
 
   abbrev pub named_content : (V → List ℕ) → List (List ℕ × V) → List ℕ
   named_content value = list_content (entry_content string_content value)

@@ -1,7 +1,8 @@
 //! The interfaces of object stores and of commit signers.
-ghost use Rattle.std.specs.Prelude.{◌≡◌, ℕ, List, [], Some, IsSome, IfOk, OnErr, Result, string_bytes};
+ghost use Rattle.std.specs.Prelude.{◌≡◌, ℕ, List, [], Some, IsSome, IfOk, IfErr, OnErr, Result, string_bytes};
 ghost use Rattle.std.specs.Result.{result_map_both};
-ghost use Rattle.jj_backend.specs.Objects.{IsRead, AddsFile, AddsSymlink, AddsCopy, AddsTree, AddsCommit, IsSigned};
+ghost use Rattle.jj_backend.specs.Objects.{IsRead, AddsFile, AddsSymlink, AddsCopy, AddsTree, AddsCommit, IsSigned, IsCommitError};
+ghost use Rattle.jj_backend.specs.Objects.{file_object, symlink_object, copy_object, tree_object, commit_object};
 ghost use Rattle.std.specs.Option.{option_map};
 ghost use Rattle.jj_paths.specs.Names.{path_of};
 
@@ -48,7 +49,7 @@ impl SigningFn for NoSigner {
 pub trait Backend {
     ghost use Rattle.std.specs.Prelude.{ℕ, List, Result};
     ghost use Rattle.jj_paths.specs.Paths.{Path};
-    ghost use Rattle.jj_backend.specs.Objects.{Objects};
+    ghost use Rattle.jj_backend.specs.Objects.{Object, Objects};
     ghost use Rattle.jj_backend.specs.Trees.{Entries};
     ghost use Rattle.jj_backend.specs.declared.backend.errors.BackendError.{BackendError};
 
@@ -60,6 +61,9 @@ pub trait Backend {
 
     /// Relates a path and a tree id to the results that `read_tree` may return for them.
     ghost may_read_tree: { Self → Path → List ℕ → Result Entries BackendError → Type 0 };
+
+    /// Relates an object to the errors that writing it may return.
+    ghost may_fail_to_write: { Self → Object → BackendError → Type 0 };
 
     /// Returns the name that identifies the type of the backend.
     fn name(&self) -> &str;
@@ -98,7 +102,8 @@ pub trait Backend {
     ) -> BackendResult<FileId>
         ensures ok { IfOk result (λ id. AddsFile (objects self.old)
             (objects self.new) id contents.now) }
-        ensures unchanged { OnErr result (objects self.new ≡ objects self.old) };
+        ensures unchanged { OnErr result (objects self.new ≡ objects self.old) }
+        ensures error { IfErr result (may_fail_to_write self.old (file_object contents.now)) };
 
     /// Reads the target of a symbolic link. `ObjectNotFound` means that no link has the id.
     fn read_symlink(
@@ -119,7 +124,8 @@ pub trait Backend {
     ) -> BackendResult<SymlinkId>
         ensures ok { IfOk result (λ id. AddsSymlink (objects self.old)
             (objects self.new) id target.now) }
-        ensures unchanged { OnErr result (objects self.new ≡ objects self.old) };
+        ensures unchanged { OnErr result (objects self.new ≡ objects self.old) }
+        ensures error { IfErr result (may_fail_to_write self.old (symlink_object target.now)) };
 
     /// Reads a copy history. `ObjectNotFound` means that no copy history has the id.
     fn read_copy(&self, alloc: Global, id: &CopyId) -> BackendResult<CopyHistory>
@@ -129,7 +135,8 @@ pub trait Backend {
     fn write_copy(&mut self, alloc: Global, copy: &CopyHistory) -> BackendResult<CopyId>
         ensures ok { IfOk result (λ id. AddsCopy (objects self.old)
             (objects self.new) id copy.now) }
-        ensures unchanged { OnErr result (objects self.new ≡ objects self.old) };
+        ensures unchanged { OnErr result (objects self.new ≡ objects self.old) }
+        ensures error { IfErr result (may_fail_to_write self.old (copy_object copy.now)) };
 
     /// Returns the copy histories that are related to the one with this id.
     fn get_related_copies(
@@ -153,7 +160,8 @@ pub trait Backend {
     ) -> BackendResult<TreeId>
         ensures ok { IfOk result (λ id. AddsTree (objects self.old)
             (objects self.new) id contents.now) }
-        ensures unchanged { OnErr result (objects self.new ≡ objects self.old) };
+        ensures unchanged { OnErr result (objects self.new ≡ objects self.old) }
+        ensures error { IfErr result (may_fail_to_write self.old (tree_object contents.now)) };
 
     /// Reads a commit. `ObjectNotFound` means that no commit has the id.
     fn read_commit(&self, alloc: Global, id: &CommitId) -> BackendResult<Commit>
@@ -171,7 +179,10 @@ pub trait Backend {
             (objects self.new) stored.0 stored.1) }
         ensures signed { IfOk result (λ stored.
             IsSigned S.may_sign (option_map (λ f. f.now) sign_with.entry) contents stored.1) }
-        ensures unchanged { OnErr result (objects self.new ≡ objects self.old) };
+        ensures unchanged { OnErr result (objects self.new ≡ objects self.old) }
+        ensures error { IfErr result (IsCommitError S.may_sign
+            (λ commit. may_fail_to_write self.old (commit_object commit))
+            (option_map (λ f. f.now) sign_with.entry) contents) };
 
     /// Returns the copies detected between two commits, only those of `paths` if it is `Some`.
     fn get_copy_records(

@@ -2,7 +2,8 @@
 ghost use Rattle.std.specs.Prelude.{◌≡◌, map, string_bytes, IfOk, OnOk, OnErr};
 ghost use Rattle.std.specs.Cmp.Lexicographic.{pointwise};
 ghost use Rattle.std.specs.Str.{bytes_eq};
-ghost use Rattle.jj_content.specs.Content.{Absorbs, AbsorbsPrefix, AreValues, list_content, string_content};
+ghost use Rattle.jj_content.specs.Content.{Absorbs, AbsorbsPrefix, list_content, string_content};
+ghost use Rattle.jj_merges.specs.Contents.{IsMergeOf};
 ghost use Rattle.jj_backend.specs.Contents.{IsText};
 
 use jj_content::content_hash::{ContentHash, DigestUpdate};
@@ -32,7 +33,7 @@ pub(super) fn hash_strings<D: DigestUpdate>(
 ) -> Result<(), AllocError>
     ensures ok { OnOk result (Absorbs D.absorbed state.old state.new
         (list_content string_content (map string_bytes texts.now))) }
-    ensures value { OnOk result (AreValues IsText (map string_bytes texts.now)) }
+    ensures value { OnOk result (IsMergeOf IsText (map string_bytes texts.now)) }
     ensures err { OnErr result (AbsorbsPrefix D.absorbed state.old state.new
         (list_content string_content (map string_bytes texts.now))) }
 {

@@ -1,11 +1,13 @@
 //! Trees: the sorted list of the entries of one directory, searched by bisection.
-ghost use Rattle.std.specs.Prelude.{◌≡◌, ◌↔◌, [], map, IsTrue, IfSome, MatchOption, None};
+ghost use Rattle.std.specs.Prelude.{◌≡◌, ◌↔◌, ◌<◌, ◌≤◌, ◌+◌, [], map, length, count_by, slice_index_or, IsTrue, IfSome, IfOk, IfErr, MatchOption, None};
 ghost use Rattle.std.specs.FinMap.{is_sorted};
+ghost use Rattle.std.specs.List.Sorted.{IsPermutation, IsSortedByKey};
+ghost use Rattle.std.specs.Str.{bytes_eq};
 ghost use Rattle.std.specs.Iterator.{YieldsFirstBy, item_count};
 ghost use Rattle.std.specs.Option.{option_copied, option_map};
 ghost use Rattle.std.specs.Ordering.{is_lt};
 ghost use Rattle.jj_paths.specs.Names.{name_of};
-ghost use Rattle.jj_paths.specs.Paths.{name_cmp};
+ghost use Rattle.jj_paths.specs.Paths.{Name, name_cmp};
 ghost use Rattle.jj_backend.specs.Trees.{Entries, value_at, IsEntryAt, entry_of, entries_left, names_left};
 
 use super::TreeValue;
@@ -14,6 +16,14 @@ use std::alloc::{AllocError, Global};
 use std::cmp::Ordering;
 use std::iter::FusedIterator;
 use std::marker::Model;
+use thiserror::Error;
+
+/// Two entries of a directory have the same name.
+#[derive(Debug, Drop, Error)]
+#[error("Duplicate tree entry \"{name}\"", name = .name.as_component().as_internal_str())]
+pub struct DuplicateEntryError {
+    pub name: RepoPathComponentBuf,
+}
 
 /// An entry of a tree, by reference: a name and a value.
 #[derive(Clone, Copy, Debug, PartialEq, Eq)]
@@ -124,6 +134,30 @@ impl Tree {
         true
     }
 
+    /// Creates a tree of entries in any order, and sorts them by name. Fails if two of them have
+    /// one name. O(n log n) comparisons; does not allocate.
+    pub fn from_entries(
+        entries: Vec<(RepoPathComponentBuf, TreeValue)>,
+    ) -> Result<Self, DuplicateEntryError>
+        ensures entries { IfOk result (IsPermutation entries.items) }
+        ensures ascending { IfOk result (λ tree. IsTrue (is_sorted name_cmp tree)) }
+        ensures values { IfOk result (λ tree. (name : Name)
+            → value_at tree name ≡ value_at entries.items name) }
+        ensures duplicate { IfErr result (λ error.
+            2 ≤ count_by (λ entry. bytes_eq error.name entry.0) entries.items) }
+    {
+        let mut entries = entries;
+        entries.sort_unstable_by(|before, after| {
+            before.0.as_component().cmp(&after.0.as_component())
+        });
+        match find_duplicate(entries.as_slice()) {
+            None => Ok(Tree { entries }),
+            Some(index) => Err(DuplicateEntryError {
+                name: take_name(entries, index),
+            }),
+        }
+    }
+
     /// Creates a tree of entries whose names ascend strictly.
     pub fn from_sorted_entries(entries: Vec<(RepoPathComponentBuf, TreeValue)>) -> Self
         requires { IsTrue (is_sorted name_cmp entries.items) }
@@ -191,6 +225,32 @@ fn precedes(
     ensures { result ≡ is_lt (name_cmp before.now.0 after.now.0) }
 {
     before.0.as_component() < after.0.as_component()
+}
+
+// Returns the index of an entry whose name is also that of the next one.
+fn find_duplicate(entries: &[(RepoPathComponentBuf, TreeValue)]) -> Option<usize>
+    requires { IsSortedByKey (λ entry. entry.0) name_cmp entries.now }
+    ensures { MatchOption result (IsTrue (is_sorted name_cmp entries.now))
+        (λ index. (index + 1 < length entries.now) × ((d : _)
+        → (slice_index_or entries.now index d).0
+        ≡ (slice_index_or entries.now (index + 1) d).0)) }
+{
+    for i in 1..entries.len() {
+        if !precedes(&entries[i - 1], &entries[i]) {
+            return Some(i - 1);
+        }
+    }
+    None
+}
+
+// Takes the name of the entry at `index`.
+fn take_name(entries: Vec<(RepoPathComponentBuf, TreeValue)>, index: usize) -> RepoPathComponentBuf
+    requires { index < length entries.items }
+    ensures { (d : _) → result ≡ (slice_index_or entries.items index d).0 }
+{
+    let mut entries = entries;
+    let (name, _value) = entries.swap_remove(index);
+    name
 }
 
 // Returns the index of the entry with this name.

@@ -1,4 +1,4 @@
-use Rattle.std.proofs.Common.{◌≡◌, ◌∙◌, ◌-◌, suc, false, get_or, sym, subst, arith}
+use Rattle.std.proofs.Common.{◌≡◌, ◌∙◌, ◌-◌, suc, get_or, sym, subst, arith}
 use Rattle.jj_backend.proofs.SortedEntries.{sorted, unsorted}
 use Rattle.jj_backend.proofs.backend.tree.Tree.are_sorted.Goals as goal
 
