@@ -1,12 +1,14 @@
 -- The model of an in-memory backend: its objects, their ids, and its initial state.
--- Cited by contracts of public items: IsStoreError, MemoryBackendValue, change_id_length,
--- digest_length, new_backend, object_id, objects_of.
+-- Cited by contracts of public items: IsStoreError, MayFailToWrite, MemoryBackendValue,
+-- change_id_length, digest_length, new_backend, object_id, objects_of.
 use Rattle.std.specs.Prelude.{◌≡◌, ◌≢◌, ◌⊎◌, ℕ, List, [], ◌∷◌, take, replicate, Some}
 use Rattle.std.specs.Map.{lookup}
 use Rattle.std.specs.Str.{bytes_eq}
 use Rattle.jj_content.specs.Blake2b.{blake2b}
+use Rattle.jj_content.specs.Content.{string_content}
 use Rattle.jj_files.specs.declared.file_util.errors.SourceKind.TheVariants.{Other as OtherKind}
-use Rattle.jj_backend.specs.Objects.{ById, Objects}
+use Rattle.jj_backend.specs.Contents.{bytes_content, copy_history_content, commit_content}
+use Rattle.jj_backend.specs.Objects.{ById, Object, file_object, symlink_object, copy_object, tree_object, commit_object, Objects}
 use Rattle.jj_backend.specs.Records.{CopyHistoryValue, CommitValue, root_commit}
 use Rattle.jj_backend.specs.TreeLaws.{tree_content}
 use Rattle.jj_backend.specs.Trees.{Entries}
@@ -63,6 +65,20 @@ change_id_length = 16
 -- the id of an object with this content: a prefix of the digest
 abbrev pub object_id : ℕ → List ℕ → List ℕ
 object_id id_length content = take id_length (blake2b content)
+
+-- The errors of writing an object: those of storing it under its id, and Other for a commit without
+-- parents.
+abbrev pub MayFailToWrite : MemoryBackendValue → Object → BackendError → Type 0
+MayFailToWrite backend (file_object contents) =
+    IsStoreError backend.files (object_id backend.id_length (bytes_content contents)) contents
+MayFailToWrite backend (symlink_object target) =
+    IsStoreError backend.symlinks (object_id backend.id_length (string_content target)) target
+MayFailToWrite backend (copy_object history) =
+    IsStoreError backend.copies (object_id backend.id_length (copy_history_content history)) history
+MayFailToWrite backend (tree_object entries) =
+    IsStoreError backend.trees (object_id backend.id_length (tree_content entries)) entries
+MayFailToWrite backend (commit_object c) = λ e. (IsOtherOf OtherKind e × (c.parents ≡ []))
+    ⊎ IsStoreError backend.commits (object_id backend.id_length (commit_content c)) c e
 
 -- a new backend, which stores the root commit and the empty tree
 abbrev pub new_backend : ℕ → MemoryBackendValue

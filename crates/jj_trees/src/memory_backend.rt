@@ -28,7 +28,7 @@ use jj_backend::backend::{
 use jj_files::file_util::SourceKind;
 use jj_paths::repo_path::{RepoPath, RepoPathBuf};
 use object_maps::{clone_object, content_id, insert_and_return, insert_object};
-use signing::{no_parents_error, sign_commit};
+pub use signing::{no_parents_error, sign_commit};
 use std::alloc::{AllocError, Global};
 use std::collections::BTreeMap;
 use std::marker::Model;
@@ -139,13 +139,15 @@ impl MemoryBackend {
 impl Backend for MemoryBackend {
     ghost use Rattle.std.specs.Prelude.{◌≡◌, ⊤};
     ghost use Rattle.jj_backend.specs.declared.backend.errors.BackendError.TheVariants.{Memory};
-    ghost use Rattle.jj_trees.specs.MemoryObjects.{objects_of};
+    ghost use Rattle.jj_trees.specs.MemoryObjects.{objects_of, MayFailToWrite};
 
     ghost objects = { objects_of };
 
     ghost may_fail = { λ _ e. e ≡ Memory };
 
     ghost may_read_tree = { λ _ path id r. ⊤ };
+
+    ghost may_fail_to_write = { MayFailToWrite };
 
     fn name(&self) -> &str
         ensures { result.now ≡ codes "memory" }

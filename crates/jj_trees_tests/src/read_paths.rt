@@ -45,6 +45,8 @@ impl Backend for PathBackend {
 
     ghost may_read_tree = { λ _ path id r. ⊤ };
 
+    ghost may_fail_to_write = { λ _ _ e. e ≡ Memory };
+
     fn name(&self) -> &str {
         "paths"
     }

@@ -1,12 +1,10 @@
-//! The stored values of files and symbolic links, and a digest that collects content bytes.
-ghost use Rattle.std.specs.Prelude.{◌≡◌, ℕ, List, IfOk, IsTrue, string_bytes};
+//! The stored values of files and symbolic links.
+ghost use Rattle.std.specs.Prelude.{◌≡◌, ℕ, List, string_bytes};
 ghost use Rattle.std.specs.Cmp;
 ghost use Rattle.std.specs.Cmp.Lexicographic.{nat_list_eq_equiv};
 ghost use Rattle.std.specs.Str.{bytes_eq};
-ghost use Rattle.jj_content.specs.Content.{Absorbs};
 
-use jj_content::content_hash::{ContentHash, DigestUpdate};
-use std::alloc::{AllocError, Global};
+use std::alloc::AllocError;
 use std::marker::Model;
 
 #[derive(Drop)]
@@ -68,42 +66,5 @@ impl PartialEq for LinkTarget {
 
     fn eq(&self, other: &LinkTarget) -> bool {
         self.text == other.text
-    }
-}
-
-// Collects the hashed bytes. `is_complete` is false after an allocation failure.
-#[derive(Drop)]
-struct CollectedBytes {
-    bytes: Vec<u8>,
-    is_complete: bool,
-}
-
-impl DigestUpdate for CollectedBytes {
-    ghost absorbed = { λ collected bytes. IsTrue collected.is_complete
-        → collected.bytes.items ≡ bytes };
-
-    fn update(&mut self, bytes: &[u8]) {
-        if self.is_complete && self.bytes.extend_from_slice(bytes).is_err() {
-            self.is_complete = false;
-        }
-    }
-}
-
-// Returns the bytes that the content hash of a value digests.
-pub(super) fn collect_content<T: ContentHash>(
-    alloc: Global,
-    value: &T,
-) -> Result<Vec<u8>, AllocError>
-    ensures { IfOk result (λ bytes. bytes.items ≡ T.content value.now) }
-{
-    let mut collected = CollectedBytes {
-        bytes: Vec::new(alloc),
-        is_complete: true,
-    };
-    value.hash(alloc, &mut collected)?;
-    if collected.is_complete {
-        Ok(collected.bytes)
-    } else {
-        Err(AllocError)
     }
 }

@@ -4,10 +4,10 @@ ghost use Rattle.jj_backend.specs.Objects.{IsSigned};
 ghost use Rattle.jj_trees.specs.MemoryErrors.{IsOtherOf};
 ghost use Rattle.jj_trees.specs.Signing.{IsConvertedError, FailsToSign};
 
-use super::contents::collect_content;
 use super::object_maps::other_error;
 use jj_backend::backend::{BackendError, BackendResult, Commit, SecureSig, SigningFn};
 use jj_backend::signing::SignError;
+use jj_content::content_hash::content_of;
 use jj_files::file_util::{SourceError, SourceKind};
 use std::alloc::Global;
 
@@ -28,15 +28,16 @@ fn convert_sign_error(alloc: Global, error: SignError) -> BackendError
     }
 }
 
-pub(super) fn no_parents_error(alloc: Global) -> BackendError
+/// Returns the error of writing a commit without parents.
+pub fn no_parents_error(alloc: Global) -> BackendError
     ensures { IsOtherOf SourceKind.Other result ⊎ (result ≡ BackendError.Memory) }
 {
     other_error(alloc, "a commit needs a parent")
 }
 
-// Replaces the signature of a commit by one of its content. Fails for a commit without parents,
-// without calling the signer.
-pub(super) fn sign_commit<S: SigningFn>(
+/// Replaces the signature of a commit by one of its content. Fails with `Other` for a commit
+/// without parents, before it calls the signer, and with the signer's error.
+pub fn sign_commit<S: SigningFn>(
     alloc: Global,
     mut commit: Commit,
     signer: &mut S,
@@ -52,7 +53,7 @@ pub(super) fn sign_commit<S: SigningFn>(
         return Err(no_parents_error(alloc));
     }
     commit.secure_sig = None;
-    let signed_data = collect_content(alloc, &commit)?;
+    let signed_data = content_of(alloc, &commit)?;
     match signer.sign(alloc, &signed_data) {
         Ok(sig) => {
             commit.secure_sig = Some(SecureSig { signed_data, sig });
