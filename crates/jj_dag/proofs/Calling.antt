@@ -1,5 +1,4 @@
 -- The graph of closures after a call, and the reasons why a walk stops.
-use Rattle.std.proofs.Common.{◌≡◌}
 use Rattle.jj_dag.specs.declared.forward.Stop.{Stop}
 use Rattle.jj_dag.specs.declared.forward.Stop.TheVariants.{Memory, Failed, Cycle}
 use Rattle.jj_dag.specs.Stops.{IfCycle, IfFailed}

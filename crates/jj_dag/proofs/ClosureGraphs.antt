@@ -6,7 +6,7 @@ use denote.Ref.{Bor}
 use Rattle.jj_dag.specs.ClosureGraph.{CallsLead, ClosureGraph, Implements, InEachModel, IsInputError, IsNeighborsError, Listing, MayReturn, ReturnsId}
 use Rattle.jj_dag.specs.ClosureGraph.CallsLead.{none, more}
 use Rattle.jj_dag.specs.ClosureGraph.MayReturn.{at_once, later}
-use Rattle.jj_dag.specs.Walk.{Model}
+use Rattle.jj_dag.specs.Walk.{GraphModel}
 use Rattle.jj_dag.proofs.Walking.{AlwaysReturns-call}
 use Rattle.jj_dag.proofs.Wrapped.{AlwaysReturns-through}
 
@@ -30,7 +30,7 @@ returns_id ids {f} {p} h is = record { shown = p; shows = refl; says = record { 
 
 -- the closures implement the same models after a call, and the call returned the neighbours of its
 -- node
-pub implements_after : {T ID F N R : Type 0} (w : Model T ID) (eq : ID → ID → Bool) (ids : Shared F (Bor T × Unit {0}) (Result ID AllocError)) (lists : Mut N (Bor T × Unit {0}) R) (yields : R → List T → Type 0) {id_fn : F} {f f' : N} {x : T} {r : R}
+pub implements_after : {T ID F N R : Type 0} (w : GraphModel T ID) (eq : ID → ID → Bool) (ids : Shared F (Bor T × Unit {0}) (Result ID AllocError)) (lists : Mut N (Bor T × Unit {0}) R) (yields : R → List T → Type 0) {id_fn : F} {f f' : N} {x : T} {r : R}
     → Implements w eq ids lists yields id_fn f → CalledAt lists f x r f'
     → Implements w eq ids lists yields id_fn f' × ((xs : List T) → w.is_node (w.node x) ≡ true → yields r xs → map w.node xs ≡ w.graph (w.node x))
 implements_after w eq ids lists yields {r = r} k did =
@@ -40,17 +40,17 @@ implements_after w eq ids lists yields {r = r} k did =
     )
 
 -- P of each model of one graph and of its starts is P of each model of a graph that has no others
-pub each_model : {T ID E K : Type 0} {graph : ClosureGraph T ID E} {start : Listing T E} {graph2 : ClosureGraph T ID K} {start2 : Listing T K} {P : Model T ID → List ℕ → Type 0} → InEachModel graph start P
-    → ((w : Model T ID) → graph2.implements w → graph.implements w) → ((xs : List T) → start.yields xs → start2.yields xs) → InEachModel graph2 start2 P
+pub each_model : {T ID E K : Type 0} {graph : ClosureGraph T ID E} {start : Listing T E} {graph2 : ClosureGraph T ID K} {start2 : Listing T K} {P : GraphModel T ID → List ℕ → Type 0} → InEachModel graph start P
+    → ((w : GraphModel T ID) → graph2.implements w → graph.implements w) → ((xs : List T) → start.yields xs → start2.yields xs) → InEachModel graph2 start2 P
 each_model k models yields = record { starts = k.starts; yielded = yields k.starts k.yielded; holds = λ w implemented nodes. k.holds w (models w implemented) nodes }
 
 pub neighbors_error : {T ID E : Type 0} {graph : ClosureGraph T ID E} {start : Listing T E} {graph2 : ClosureGraph T ID E} {start2 : Listing T E} {e : E} → IsNeighborsError graph start e
-    → ((w : Model T ID) → graph2.implements w → graph.implements w) → ((x : T) → graph.fails x e → graph2.fails x e)
+    → ((w : GraphModel T ID) → graph2.implements w → graph.implements w) → ((x : T) → graph.fails x e → graph2.fails x e)
     → ((xs : List T) → start.yields xs → start2.yields xs) → IsNeighborsError graph2 start2 e
 neighbors_error k models fails yields = record { node = k.node; fails = fails k.node k.fails; reached = each_model k.reached models yields }
 
 pub input_error : {T ID E : Type 0} {graph : ClosureGraph T ID E} {start : Listing T E} {graph2 : ClosureGraph T ID E} {start2 : Listing T E} {e : E} → IsInputError graph start e
-    → ((w : Model T ID) → graph2.implements w → graph.implements w) → ((x : T) → graph.fails x e → graph2.fails x e)
+    → ((w : GraphModel T ID) → graph2.implements w → graph.implements w) → ((x : T) → graph.fails x e → graph2.fails x e)
     → ((xs : List T) → start.yields xs → start2.yields xs) → (start.fails e → start2.fails e) → IsInputError graph2 start2 e
 input_error (inl h) models fails yields fails_too = inl (fails_too h)
 input_error (inr k) models fails yields fails_too = inr (neighbors_error k models fails yields)
@@ -61,7 +61,7 @@ module _ {T G N R S : Type 0} (outer : Mut G (Bor T × Unit {0}) R) (inner : Mut
   -- it implements the models of the other one, where its lists are lists of the other one
   pub implements_outside : {ID F : Type 0} (eq : ID → ID → Bool) (ids : Shared F (Bor T × Unit {0}) (Result ID AllocError)) (yields : R → List T → Type 0) (yields_inside : S → List T → Type 0)
       → ((s : S) (r : R) (xs : List T) → Hands s r → yields r xs → yields_inside s xs)
-      → (w : Model T ID) (id_fn : F) (f : G) → Implements w eq ids inner yields_inside id_fn (of f) → Implements w eq ids outer yields id_fn f
+      → (w : GraphModel T ID) (id_fn : F) (f : G) → Implements w eq ids inner yields_inside id_fn (of f) → Implements w eq ids outer yields id_fn f
   implements_outside eq ids yields yields_inside inside w id_fn f k = record {
     closed = k.closed;
     apart = k.apart;

@@ -22,8 +22,8 @@ use Rattle.std.specs.declared.alloc.AllocError.{AllocError}
 use Rattle.jj_dag.proofs.ClosureGraphs.{implements_after, may_return_later}
 use Rattle.jj_dag.proofs.GreatestOrder.{map_twice}
 use Rattle.jj_dag.specs.Graph.{Graph, ReachedFrom}
-use Rattle.jj_dag.specs.Walk.{AreNodes, Model}
-use Rattle.jj_dag.proofs.Collecting.{places_more}
+use Rattle.jj_dag.specs.Walk.{AreNodes, GraphModel}
+use Rattle.jj_dag.proofs.Collecting.{indices_more}
 use Rattle.jj_dag.proofs.Reaching.{Reaches-trans}
 use Rattle.jj_dag.proofs.Walking.{AlwaysReturns-call}
 
@@ -62,20 +62,20 @@ module _ {T ID E F N U J : Type 0} (eq : ID → ID → Bool) (ids : Shared F (Bo
   fails_before s t k x e (r, may, fails) = (r, may_return_later k.calls may, fails)
 
 -- a model's list of a node, as items
-pub whole_listed : {T ID : Type 0} (walk : Model T ID) (a : ℕ) (xs : List T) → map walk.node xs ≡ walk.graph a → whole walk a ≡ map (λ x. Ok (walk.node x)) xs
+pub whole_listed : {T ID : Type 0} (walk : GraphModel T ID) (a : ℕ) (xs : List T) → map walk.node xs ≡ walk.graph a → whole walk a ≡ map (λ x. Ok (walk.node x)) xs
 whole_listed walk a xs e = ap (map (λ b. Ok b)) (sym e) ∙ map_twice (λ (b : ℕ). Ok b) walk.node xs
 
 -- one more node is collected
 pub filled_more : {T ID : Type 0} (eq : ID → ID → Bool) (s t : IndexedGraph T ID) (node : T) (id : ID) (kept : Vec ID Global) (filled : IsFilled eq s) → t.nodes.items ≡ s.nodes.items ++ Some node ∷ []
     → t.neighbor_ids.items ≡ s.neighbor_ids.items ++ kept ∷ [] → ((i : ID) → get eq t.index_of i ≡ cond (eq id i) (Some (length s.nodes.items)) (get eq s.index_of i))
-    → (more : IsFilled eq t) × (more.given ≡ filled.given ++ node ∷ [])
-filled_more eq s t node id kept filled nodes lists places = (
+    → (more : IsFilled eq t) × (more.visited ≡ filled.visited ++ node ∷ [])
+filled_more eq s t node id kept filled nodes lists indices = (
   record {
-    given = filled.given ++ node ∷ [];
-    nodes = nodes ∙ ap (λ l. l ++ Some node ∷ []) filled.nodes ∙ sym (map_push (λ x. Some x) filled.given node);
-    ids = ap length lists ∙ length_push s.neighbor_ids.items kept ∙ ap (λ n. n + 1) filled.ids ∙ sym (length_push filled.given node);
-    places = λ i k found. rw (length_push filled.given node)
-        (places_more eq (get eq s.index_of) _ id (length filled.given) (length s.nodes.items) filled.places (ap length filled.nodes ∙ length-map filled.given (λ x. Some x)) places i k found);
+    visited = filled.visited ++ node ∷ [];
+    nodes = nodes ∙ ap (λ l. l ++ Some node ∷ []) filled.nodes ∙ sym (map_push (λ x. Some x) filled.visited node);
+    ids = ap length lists ∙ length_push s.neighbor_ids.items kept ∙ ap (λ n. n + 1) filled.ids ∙ sym (length_push filled.visited node);
+    indices = λ i k found. rw (length_push filled.visited node)
+        (indices_more eq (get eq s.index_of) _ id (length filled.visited) (length s.nodes.items) filled.indices (ap length filled.nodes ∙ length-map filled.visited (λ x. Some x)) indices i k found);
   },
   refl,
 )
@@ -88,19 +88,19 @@ zip-push R (a ∷ xs) [] x y k r = absurd k
 zip-push R (a ∷ xs) (b ∷ ys) x y k r = (k.0, zip-push R xs ys x y k.1 r)
 
 -- one more id was returned
-pub told_more : {T ID : Type 0} (tells : T → ID → Type 0) (nodes : List T) (n : ℕ) (ids more : List ID) (node : T) (id : ID) → n < length nodes → node ≡ get_or nodes n node → tells node id
-    → AllZip tells (take n nodes) ids → more ≡ ids ++ id ∷ [] → AllZip tells (take (n + 1) nodes) more
-told_more tells nodes n ids more node id lt at told before pushed = rw (take_more nodes n node lt, sym at, pushed) (zip-push tells (take n nodes) ids node id before told)
+pub told_more : {T ID : Type 0} (is_id : T → ID → Type 0) (nodes : List T) (n : ℕ) (ids more : List ID) (node : T) (id : ID) → n < length nodes → node ≡ get_or nodes n node → is_id node id
+    → AllZip is_id (take n nodes) ids → more ≡ ids ++ id ∷ [] → AllZip is_id (take (n + 1) nodes) more
+told_more is_id nodes n ids more node id lt at told before pushed = rw (take_more nodes n node lt, sym at, pushed) (zip-push is_id (take n nodes) ids node id before told)
 
 -- ids that the closure returned for nodes are theirs
-pub ids_told : {T ID : Type 0} (w : Model T ID) (tells : T → ID → Type 0) → ((x : T) (i : ID) → w.is_node (w.node x) ≡ true → tells x i → w.id i ≡ w.node x)
-    → (xs : List T) (is : List ID) → AllZip tells xs is → AreNodes w (map w.node xs) → map w.id is ≡ map w.node xs
-ids_told w tells stand [] [] told nodes = refl
-ids_told w tells stand [] (i ∷ is) told nodes = absurd told
-ids_told w tells stand (x ∷ xs) [] told nodes = absurd told
-ids_told w tells stand (x ∷ xs) (i ∷ is) told nodes =
+pub ids_told : {T ID : Type 0} (w : GraphModel T ID) (is_id : T → ID → Type 0) → ((x : T) (i : ID) → w.is_node (w.node x) ≡ true → is_id x i → w.id i ≡ w.node x)
+    → (xs : List T) (is : List ID) → AllZip is_id xs is → AreNodes w (map w.node xs) → map w.id is ≡ map w.node xs
+ids_told w is_id stand [] [] told nodes = refl
+ids_told w is_id stand [] (i ∷ is) told nodes = absurd told
+ids_told w is_id stand (x ∷ xs) [] told nodes = absurd told
+ids_told w is_id stand (x ∷ xs) (i ∷ is) told nodes =
     ap (λ n. n ∷ map w.id is) (stand x i (nodes (w.node x) (0, omega arith, refl)) told.0)
-    ∙ ap (λ l. w.node x ∷ l) (ids_told w tells stand xs is told.1 (λ a h. nodes a (Contains-append_right (w.node x ∷ []) (map w.node xs) a h)))
+    ∙ ap (λ l. w.node x ∷ l) (ids_told w is_id stand xs is told.1 (λ a h. nodes a (Contains-append_right (w.node x ∷ []) (map w.node xs) a h)))
 
 -- nodes that reached nodes reach are reached
 pub reached_through : (g : Graph) (starts left : List ℕ) → ((b : ℕ) → Contains left b → ReachedFrom g starts b) → (a : ℕ) → ReachedFrom g left a → ReachedFrom g starts a

@@ -31,5 +31,5 @@ begins_failed {T = T} {E} becomes steps value xs e {s} {t} {u} {ys} {x} is run l
     let all : ys ++ x ∷ [] ≡ map (λ z. Ok z) xs ++ Err e ∷ [] = ap (λ z. ys ++ z ∷ []) failed ∙ ap (λ l. l ++ Err e ∷ []) same in
     (s, is, (u, subst (λ (l : List (Result T E)). Yields steps s l u) all (Yields-push steps ys x s t u run last)))
 
-pub waiting-push : {T : Type 0} (xs : List T) (x : T) → map {B = T × Bool} (λ z. (z, false)) (xs ++ x ∷ []) ≡ map (λ z. (z, false)) xs ++ (x, false) ∷ []
-waiting-push {T} xs x = map-append {B = T × Bool} (λ (z : T). (z, false)) xs (x ∷ [])
+pub pending-push : {T : Type 0} (xs : List T) (x : T) → map {B = T × Bool} (λ z. (z, false)) (xs ++ x ∷ []) ≡ map (λ z. (z, false)) xs ++ (x, false) ∷ []
+pending-push {T} xs x = map-append {B = T × Bool} (λ (z : T). (z, false)) xs (x ∷ [])

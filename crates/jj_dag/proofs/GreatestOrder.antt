@@ -9,10 +9,10 @@ use Rattle.std.proofs.lemmas.Bool.{cases_eq}
 use Rattle.std.proofs.lemmas.Bool.Decides.{nat_tests}
 use Rattle.std.proofs.lemmas.List.{length-map, get_or-map, get_or_past, get_or_default}
 use Rattle.jj_dag.specs.Graph.{HasEdge, ReachedFrom, IsAcyclicFrom, ReachesCycle, IsTopologicalOrder, IsGreatestTopologicalOrder}
-use Rattle.jj_dag.specs.FallibleGraphs.{FallibleGraph, sound}
-use Rattle.jj_dag.specs.Walk.{Model, AreNodes, IsOrderedLike}
+use Rattle.jj_dag.specs.FallibleGraphs.{FallibleGraph, ok_graph}
+use Rattle.jj_dag.specs.Walk.{GraphModel, AreNodes, IsOrderedLike}
 use Rattle.jj_dag.specs.Collecting.{IsCollecting}
-use Rattle.jj_dag.specs.ReadyNodes.{TakesGreatestReady, IsStuck, IsNotBelow, places_graph}
+use Rattle.jj_dag.specs.ReadyNodes.{TakesGreatestReady, IsStuck, IsNotBelow, index_graph}
 use Rattle.jj_dag.proofs.Reaching.{Contains-reached}
 use Rattle.jj_dag.proofs.Collecting.{are_nodes}
 use Rattle.jj_dag.proofs.ReadyOrders.{here, later, IsTopologicalOrder-from_taken, IsGreatest-from_taken, IsAcyclicFrom-from_child_first, cycle_from_stuck}
@@ -42,11 +42,11 @@ found_by {X} find (x ∷ xs) b h =
 
 -- linked indices are in range
 pub linked_within : {X : Type 0} (find : X → Option ℕ) (ids : List (List X)) (ts : List (List ℕ)) (n : ℕ) → ts ≡ map (λ is. filter_map find is) ids → ((i : X) (k : ℕ) → find i ≡ Some k → k < n)
-    → (a b : ℕ) → Contains (places_graph ts a) b → b < n
-linked_within {X} find ids ts n e places a b h =
+    → (a b : ℕ) → Contains (index_graph ts a) b → b < n
+linked_within {X} find ids ts n e indices a b h =
     let q : Contains (get_or (map (λ is. filter_map find is) ids) a []) b = subst (λ (l : List (List ℕ)). Contains (get_or l a []) b) e h in
     elim (cases_lt a (length ids)) [
-      | inl lt ↦ let f = found_by find (get_or ids a []) b (subst (λ (l : List ℕ). Contains l b) (get_or-map (λ is. filter_map find is) ids a [] [] lt) q) in places f.0 b f.1
+      | inl lt ↦ let f = found_by find (get_or ids a []) b (subst (λ (l : List ℕ). Contains l b) (get_or-map (λ is. filter_map find is) ids a [] [] lt) q) in indices f.0 b f.1
       | inr ge ↦
           let past : get_or (map (λ is. filter_map find is) ids) a [] ≡ [] = get_or_past _ a [] (rw (length-map ids (λ is. filter_map find is)) ge) in
           absurd (nothing b (subst (λ (l : List ℕ). Contains l b) past q))
@@ -60,7 +60,7 @@ map_twice f h [] = refl
 map_twice f h (x ∷ xs) = ap (λ l. f (h x) ∷ l) (map_twice f h xs)
 
 -- every slot has a node
-pub slots_present : {T : Type 0} (given : List T) (k : ℕ) → k < length (map (λ x. Some x) given) → IsSome (get_or (map (λ x. Some x) given) k None)
+pub slots_present : {T : Type 0} (visited : List T) (k : ℕ) → k < length (map (λ x. Some x) visited) → IsSome (get_or (map (λ x. Some x) visited) k None)
 slots_present [] k lt = absurd (omega arith)
 slots_present (y ∷ ys) zero lt = refl
 slots_present (y ∷ ys) (suc k) lt = slots_present ys k (omega arith)
@@ -68,25 +68,25 @@ slots_present (y ∷ ys) (suc k) lt = slots_present ys k (omega arith)
 not_lt : (a b : ℕ) → is_lt (nat_cmp a b) ≡ false → b ≤ a
 not_lt a b h = grind (arith, nat_tests)
 
-module _ {T ID E : Type 0} (w : Model T ID) (items : FallibleGraph E) (cmp : T → T → Ordering) where
-  slot_number : (given : List T) (k : ℕ) (x : T) → get_or (map (λ x. Some x) given) k None ≡ Some x → get_or (map w.node given) k 0 ≡ w.node x
+module _ {T ID E : Type 0} (w : GraphModel T ID) (items : FallibleGraph E) (cmp : T → T → Ordering) where
+  slot_number : (visited : List T) (k : ℕ) (x : T) → get_or (map (λ x. Some x) visited) k None ≡ Some x → get_or (map w.node visited) k 0 ≡ w.node x
   slot_number [] k x e = absurd cc
   slot_number (y ∷ ys) zero x e = let q : y ≡ x = cc in ap w.node q
   slot_number (y ∷ ys) (suc k) x e = slot_number ys k x e
 
-  slot_value : (given : List T) (k : ℕ) → k < length given → (x : T) × (get_or (map (λ x. Some x) given) k None ≡ Some x)
+  slot_value : (visited : List T) (k : ℕ) → k < length visited → (x : T) × (get_or (map (λ x. Some x) visited) k None ≡ Some x)
   slot_value [] k lt = absurd (omega arith)
   slot_value (y ∷ ys) zero lt = (y, refl)
   slot_value (y ∷ ys) (suc k) lt = slot_value ys k (omega arith)
 
-  picked_numbers : (given vs : List T) (order : List ℕ) → map (λ x. Some x) vs ≡ map (λ k. get_or (map (λ x. Some x) given) k None) order → map w.node vs ≡ map (λ k. get_or (map w.node given) k 0) order
-  picked_numbers given [] [] e = refl
-  picked_numbers given [] (k ∷ order) e = absurd cc
-  picked_numbers given (v ∷ vs) [] e = absurd cc
-  picked_numbers given (v ∷ vs) (k ∷ order) e =
-      let h : Some v ≡ get_or (map (λ x. Some x) given) k None = cc in
-      let t : map (λ x. Some x) vs ≡ map (λ k. get_or (map (λ x. Some x) given) k None) order = cc in
-      ap (λ n. n ∷ map w.node vs) (sym (slot_number given k v (sym h))) ∙ ap (λ l. get_or (map w.node given) k 0 ∷ l) (picked_numbers given vs order t)
+  picked_numbers : (visited vs : List T) (order : List ℕ) → map (λ x. Some x) vs ≡ map (λ k. get_or (map (λ x. Some x) visited) k None) order → map w.node vs ≡ map (λ k. get_or (map w.node visited) k 0) order
+  picked_numbers visited [] [] e = refl
+  picked_numbers visited [] (k ∷ order) e = absurd cc
+  picked_numbers visited (v ∷ vs) [] e = absurd cc
+  picked_numbers visited (v ∷ vs) (k ∷ order) e =
+      let h : Some v ≡ get_or (map (λ x. Some x) visited) k None = cc in
+      let t : map (λ x. Some x) vs ≡ map (λ k. get_or (map (λ x. Some x) visited) k None) order = cc in
+      ap (λ n. n ∷ map w.node vs) (sym (slot_number visited k v (sym h))) ∙ ap (λ l. get_or (map w.node visited) k 0 ∷ l) (picked_numbers visited vs order t)
 
   linked_numbers : (find : ID → Option ℕ) (ns : List ℕ) (is : List ID) → ((i : ID) → Contains is i → (p : ℕ) × (find i ≡ Some p) × (get_or ns p 0 ≡ w.id i)) → map (λ j. get_or ns j 0) (filter_map find is) ≡ map w.id is
   linked_numbers find ns [] h = refl
@@ -95,36 +95,36 @@ module _ {T ID E : Type 0} (w : Model T ID) (items : FallibleGraph E) (cmp : T �
       let rest = linked_numbers find ns is (λ j c. h j (later i is j c)) in
       rw (f.1) (ap (λ n. n ∷ map (λ j. get_or ns j 0) (filter_map find is)) f.2 ∙ ap (λ l. w.id i ∷ l) rest)
 
-  module _ (starts : List ℕ) (find : ID → Option ℕ) (given : List T) (ids : List (List ID)) (ts : List (List ℕ))
-      (sound_graph : (a : ℕ) → w.graph a ≡ sound items a) (closed : (a : ℕ) → w.is_node a ≡ true → AreNodes w (w.graph a)) (nodes : AreNodes w starts)
-      (collected : IsCollecting w items starts find [] given ids) (lengths : length ids ≡ length given) (linked : ts ≡ map (λ is. filter_map find is) ids)
-      (places : (i : ID) (k : ℕ) → find i ≡ Some k → k < length given) where
+  module _ (starts : List ℕ) (find : ID → Option ℕ) (visited : List T) (ids : List (List ID)) (ts : List (List ℕ))
+      (sound_graph : (a : ℕ) → w.graph a ≡ ok_graph items a) (closed : (a : ℕ) → w.is_node a ≡ true → AreNodes w (w.graph a)) (nodes : AreNodes w starts)
+      (collected : IsCollecting w items starts find [] visited ids) (lengths : length ids ≡ length visited) (linked : ts ≡ map (λ is. filter_map find is) ids)
+      (indices : (i : ID) (k : ℕ) → find i ≡ Some k → k < length visited) where
     abbrev ns : List ℕ
-    ns = map w.node given
+    ns = map w.node visited
 
-    none_waits : (a : ℕ) → Contains ns a ⊎ Contains [] a → Contains ns a
-    none_waits a h = ⊎_elim (λ l. l) (λ (k, lt, e). absurd (omega arith)) h
+    nothing_queued : (a : ℕ) → Contains ns a ⊎ Contains [] a → Contains ns a
+    nothing_queued a h = ⊎_elim (λ l. l) (λ (k, lt, e). absurd (omega arith)) h
 
     -- the numbers are those that the starts reach
     are_reached : (a : ℕ) → Contains ns a ↔ ReachedFrom w.graph starts a
     are_reached a = (
-      collected.given_reached a,
-      λ (s, at, r). Contains-reached w.graph ns (λ b c h edge. none_waits c (collected.closed b c h edge)) r.0 s a (none_waits s (collected.starts_met s at)) r.1,
+      collected.visited_reached a,
+      λ (s, at, r). Contains-reached w.graph ns (λ b c h edge. nothing_queued c (collected.closed b c h edge)) r.0 s a (nothing_queued s (collected.starts_visited s at)) r.1,
     )
 
     is_node : (a : ℕ) → Contains ns a → w.is_node a ≡ true
-    is_node a h = are_nodes w items starts closed nodes a (collected.given_reached a h)
+    is_node a h = are_nodes w items starts closed nodes a (collected.visited_reached a h)
 
     edges_stand : (k : ℕ) → k < length ns → map (λ j. get_or ns j 0) (get_or ts k []) ≡ w.graph (get_or ns k 0)
     edges_stand k lt =
-        let n : length ns ≡ length given = length-map given w.node in
+        let n : length ns ≡ length visited = length-map visited w.node in
         let below : k < length ids = omega arith in
         let list : get_or ts k [] ≡ filter_map find (get_or ids k []) = ap (λ l. get_or l k []) linked ∙ get_or-map (λ is. filter_map find is) ids k [] [] below in
         let listed : map w.id (get_or ids k []) ≡ w.graph (get_or ns k 0) =
         sym (get_or-map (λ is. map w.id is) ids k [] [] below) ∙ ap (λ l. get_or l k []) collected.lists ∙ get_or-map w.graph ns k 0 [] lt in
         ap (map (λ j. get_or ns j 0)) list ∙ linked_numbers find ns (get_or ids k []) (λ i h.
         let edge : HasEdge w.graph (get_or ns k 0) (w.id i) = subst (λ (l : List ℕ). Contains l (w.id i)) listed (Contains-map w.id (get_or ids k []) i h) in
-        let there = none_waits (w.id i) (collected.closed (get_or ns k 0) (w.id i) (Contains-get_or ns k 0 lt) edge) in
+        let there = nothing_queued (w.id i) (collected.closed (get_or ns k 0) (w.id i) (Contains-get_or ns k 0 lt) edge) in
         found i (find i) refl there) ∙ listed
       where
         found : (i : ID) (o : Option ℕ) → find i ≡ o → Contains ns (w.id i) → (p : ℕ) × (find i ≡ Some p) × (get_or ns p 0 ≡ w.id i)
@@ -132,34 +132,34 @@ module _ {T ID E : Type 0} (w : Model T ID) (items : FallibleGraph E) (cmp : T �
         found i (Some p) e there = (p, e, (subst (λ (o : Option ℕ). MatchOption o (Contains ns (w.id i) → ⊥) (λ k. (k < length ns) × (get_or ns k 0 ≡ w.id i))) e (collected.finds i (is_node (w.id i) there))).1)
 
     within : (a b : ℕ) → Contains (get_or ts a []) b → b < length ns
-    within a b h = rw (length-map given w.node) (linked_within find ids ts (length given) linked places a b h)
+    within a b h = rw (length-map visited w.node) (linked_within find ids ts (length visited) linked indices a b h)
 
-    module _ (order : List ℕ) (takes : TakesGreatestReady (places_graph ts) (λ k. k < length (map (λ x. Some x) given)) (IsNotBelow cmp (map (λ x. Some x) given)) order) where
-      numbers_taken : TakesGreatestReady w.graph (Contains ns) (AtPlaces w.graph ns ts collected.injective edges_stand within (IsNotBelow cmp (map (λ x. Some x) given))) (map (λ k. get_or ns k 0) order)
+    module _ (order : List ℕ) (takes : TakesGreatestReady (index_graph ts) (λ k. k < length (map (λ x. Some x) visited)) (IsNotBelow cmp (map (λ x. Some x) visited)) order) where
+      numbers_taken : TakesGreatestReady w.graph (Contains ns) (AtPlaces w.graph ns ts collected.injective edges_stand within (IsNotBelow cmp (map (λ x. Some x) visited))) (map (λ k. get_or ns k 0) order)
       numbers_taken =
-          let same : length (map (λ x. Some x) given) ≡ length ns = length-map given (λ x. Some x) ∙ sym (length-map given w.node) in
-          relabelled w.graph ns ts collected.injective edges_stand within _ order (subst (λ (n : ℕ). TakesGreatestReady (places_graph ts) (λ k. k < n) (IsNotBelow cmp (map (λ x. Some x) given)) order) same takes)
+          let same : length (map (λ x. Some x) visited) ≡ length ns = length-map visited (λ x. Some x) ∙ sym (length-map visited w.node) in
+          relabelled w.graph ns ts collected.injective edges_stand within _ order (subst (λ (n : ℕ). TakesGreatestReady (index_graph ts) (λ k. k < n) (IsNotBelow cmp (map (λ x. Some x) visited)) order) same takes)
 
-      above : IsOrderedLike w cmp → (a b : ℕ) → Contains ns a → Contains ns b → AtPlaces w.graph ns ts collected.injective edges_stand within (IsNotBelow cmp (map (λ x. Some x) given)) a b → b ≤ a
+      above : IsOrderedLike w cmp → (a b : ℕ) → Contains ns a → Contains ns b → AtPlaces w.graph ns ts collected.injective edges_stand within (IsNotBelow cmp (map (λ x. Some x) visited)) a b → b ≤ a
       above ordered a b in_a in_b h =
-          let n : length ns ≡ length given = length-map given w.node in
+          let n : length ns ≡ length visited = length-map visited w.node in
           let at_a : get_or ns in_a.0 0 ≡ a = get_or_default ns in_a.0 0 a in_a.1 ∙ in_a.2 in
           let at_b : get_or ns in_b.0 0 ≡ b = get_or_default ns in_b.0 0 b in_b.1 ∙ in_b.2 in
           let lt_a : in_a.0 < length ns = in_a.1 in
           let lt_b : in_b.0 < length ns = in_b.1 in
-          let x = slot_value given in_a.0 (omega arith) in
-          let y = slot_value given in_b.0 (omega arith) in
-          let is_x : w.node x.0 ≡ a = sym (slot_number given in_a.0 x.0 x.1) ∙ at_a in
-          let is_y : w.node y.0 ≡ b = sym (slot_number given in_b.0 y.0 y.1) ∙ at_b in
+          let x = slot_value visited in_a.0 (omega arith) in
+          let y = slot_value visited in_b.0 (omega arith) in
+          let is_x : w.node x.0 ≡ a = sym (slot_number visited in_a.0 x.0 x.1) ∙ at_a in
+          let is_y : w.node y.0 ≡ b = sym (slot_number visited in_b.0 y.0 y.1) ∙ at_b in
           let told = h in_a.0 in_b.0 lt_a lt_b at_a at_b x.0 y.0 x.1 y.1 in
           let rank = ordered x.0 y.0 (rw is_x (is_node a in_a)) (rw is_y (is_node b in_b)) in
           not_lt a b (rw (rank, is_x, is_y) at told)
 
-      pub order_is : (vs : List T) → map (λ x. Some x) vs ≡ map (λ k. get_or (map (λ x. Some x) given) k None) order → ((k : ℕ) → k < length (map (λ x. Some x) given) → Contains order k)
+      pub order_is : (vs : List T) → map (λ x. Some x) vs ≡ map (λ k. get_or (map (λ x. Some x) visited) k None) order → ((k : ℕ) → k < length (map (λ x. Some x) visited) → Contains order k)
           → IsTopologicalOrder w.graph starts (map w.node vs) × IsAcyclicFrom w.graph starts × (IsOrderedLike w cmp → IsGreatestTopologicalOrder w.graph starts (map w.node vs))
       order_is vs picked all =
-          let same = picked_numbers given vs order picked in
-          let slots : length (map (λ x. Some x) given) ≡ length ns = length-map given (λ x. Some x) ∙ sym (length-map given w.node) in
+          let same = picked_numbers visited vs order picked in
+          let slots : length (map (λ x. Some x) visited) ≡ length ns = length-map visited (λ x. Some x) ∙ sym (length-map visited w.node) in
           let taken : (a : ℕ) → Contains ns a → Contains (map (λ k. get_or ns k 0) order) a = λ a h.
           let lt : h.0 < length ns = h.1 in
           let at : get_or ns h.0 0 ≡ a = get_or_default ns h.0 0 a h.1 ∙ h.2 in
@@ -173,17 +173,17 @@ module _ {T ID E : Type 0} (w : Model T ID) (items : FallibleGraph E) (cmp : T �
             },
           )
 
-    pub cycle_is : (order : List ℕ) (k : ℕ) → k < length (map (λ x. Some x) given) → (Contains order k → ⊥) → IsStuck (places_graph ts) (λ k. k < length (map (λ x. Some x) given)) order → ReachesCycle w.graph starts
+    pub cycle_is : (order : List ℕ) (k : ℕ) → k < length (map (λ x. Some x) visited) → (Contains order k → ⊥) → IsStuck (index_graph ts) (λ k. k < length (map (λ x. Some x) visited)) order → ReachesCycle w.graph starts
     cycle_is order k lt out stuck =
-        let same : length (map (λ x. Some x) given) ≡ length ns = length-map given (λ x. Some x) ∙ sym (length-map given w.node) in
-        let r = cycle_from_stuck (places_graph ts) (λ k. k < length (map (λ x. Some x) given)) (below_all (length (map (λ x. Some x) given))) order (λ a h. has_below _ a h) stuck k lt out in
+        let same : length (map (λ x. Some x) visited) ≡ length ns = length-map visited (λ x. Some x) ∙ sym (length-map visited w.node) in
+        let r = cycle_from_stuck (index_graph ts) (λ k. k < length (map (λ x. Some x) visited)) (below_all (length (map (λ x. Some x) visited))) order (λ a h. has_below _ a h) stuck k lt out in
         let below : r.0 < length ns = rw (← same) r.1 in
-        (get_or ns r.0 0, (collected.given_reached _ (Contains-get_or ns r.0 0 below), StrictlyReaches-up w.graph ns ts collected.injective edges_stand within r.0 r.0 below r.2))
+        (get_or ns r.0 0, (collected.visited_reached _ (Contains-get_or ns r.0 0 below), StrictlyReaches-up w.graph ns ts collected.injective edges_stand within r.0 r.0 below r.2))
 
     -- the node at an index is reached
-    pub place_reached : (k : ℕ) (x : T) → get_or (map (λ x. Some x) given) k None ≡ Some x → k < length (map (λ x. Some x) given) → ReachedFrom w.graph starts (w.node x)
-    place_reached k x e lt =
-        let same : length (map (λ x. Some x) given) ≡ length ns = length-map given (λ x. Some x) ∙ sym (length-map given w.node) in
-        let at : get_or ns k 0 ≡ w.node x = slot_number given k x e in
+    pub index_reached : (k : ℕ) (x : T) → get_or (map (λ x. Some x) visited) k None ≡ Some x → k < length (map (λ x. Some x) visited) → ReachedFrom w.graph starts (w.node x)
+    index_reached k x e lt =
+        let same : length (map (λ x. Some x) visited) ≡ length ns = length-map visited (λ x. Some x) ∙ sym (length-map visited w.node) in
+        let at : get_or ns k 0 ≡ w.node x = slot_number visited k x e in
         let below : k < length ns = omega arith in
-        collected.given_reached _ (subst (λ (n : ℕ). Contains ns n) at (Contains-get_or ns k 0 below))
+        collected.visited_reached _ (subst (λ (n : ℕ). Contains ns n) at (Contains-get_or ns k 0 below))

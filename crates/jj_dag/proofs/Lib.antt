@@ -1,6 +1,8 @@
 pub mod Reaching
 pub mod Walking
 pub mod Clones
+pub mod DenseMaps
+pub mod DenseSets
 pub mod Unwinding
 pub mod FailingWalks
 pub mod FailingOrders
@@ -13,10 +15,10 @@ pub mod Collecting
 pub mod Relabelled
 pub mod GreatestOrder
 pub mod Errors
-pub mod CommonMarks
-pub mod MarkSums
+pub mod CommonStates
+pub mod StateSums
 pub mod ClosestCommon
-pub mod Marking
+pub mod Relaxing
 pub mod Meeting
 pub mod Wrapped
 pub mod ListsOrErrors
@@ -31,3 +33,4 @@ pub mod Renumbered
 pub mod ClosureGraphs
 pub mod NodeGraphs
 pub mod ListNumbers
+pub mod SortedResults

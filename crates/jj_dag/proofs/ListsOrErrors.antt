@@ -53,15 +53,15 @@ last_error (y ∷ ys) x e is = absurd cc
 
 module _ {U I T E : Type 0} (becomes : U → I → Type 0) (steps : I → Option T → I → Type 0) where
   -- a complete list of the iterator over a result is one of the result
-  pub list_answered : (answer : Result U E) (s : ListOrError I E) → IteratesOver becomes answer s → (xs : list T) → DrainsTo (λ v k. k ≡ v) (StepsListed steps) s (map (λ x. Ok x) xs)
-      → YieldsOk (DrainsTo becomes steps) answer xs
+  pub list_yielded : (outcome : Result U E) (s : ListOrError I E) → IteratesOver becomes outcome s → (xs : list T) → DrainsTo (λ v k. k ≡ v) (StepsListed steps) s (map (λ x. Ok x) xs)
+      → YieldsOk (DrainsTo becomes steps) outcome xs
   unfolding IteratesOver
-  list_answered (Ok value) (Error o) h xs d = absurd h
-  list_answered (Err e) (List it) h xs d = absurd h
-  list_answered (Err e) (Error o) h xs (j, same, d) =
+  list_yielded (Ok value) (Error o) h xs d = absurd h
+  list_yielded (Err e) (List it) h xs d = absurd h
+  list_yielded (Err e) (Error o) h xs (j, same, d) =
       let all = drained_error steps (map (λ x. Ok x) xs) e (subst (λ v. Drains (StepsListed steps) v (map (λ x. Ok x) xs)) (same ∙ ap (λ p. Error p) h) d) in
       absurd (no_error [] e [] xs (sym all))
-  list_answered (Ok value) (List it) h xs (j, same, (u, (t, run, end))) =
+  list_yielded (Ok value) (List it) h xs (j, same, (u, (t, run, end))) =
       let r = from_list steps (map (λ x. Ok x) xs) it t (subst (λ v. Yields (StepsListed steps) v (map (λ x. Ok x) xs) t) same run) in
       (it, h, subst (λ (l : list T). Drains steps it l) (sym (ok_same E xs r.0 r.2)) (ended r.0 r.1 u r.4 (subst (λ v. StepsListed steps v None u) r.3 end)))
     where
@@ -70,21 +70,21 @@ module _ {U I T E : Type 0} (becomes : U → I → Type 0) (steps : I → Option
       ended xs after (Error o) run end = absurd end
 
   -- and its error is that of the result
-  pub error_answered : (answer : Result U E) (s : ListOrError I E) → IteratesOver becomes answer s → (x : E) → FailsAfterNodes (λ v k. k ≡ v) (StepsListed steps) s x → answer ≡ Err x
+  pub error_yielded : (outcome : Result U E) (s : ListOrError I E) → IteratesOver becomes outcome s → (x : E) → FailsAfterNodes (λ v k. k ≡ v) (StepsListed steps) s x → outcome ≡ Err x
   unfolding IteratesOver
-  error_answered (Ok value) (Error o) h x k = absurd h
-  error_answered (Err e) (List it) h x k = absurd h
-  error_answered (Ok value) (List it) h x (xs, (j, same, (t, run))) =
+  error_yielded (Ok value) (Error o) h x k = absurd h
+  error_yielded (Err e) (List it) h x k = absurd h
+  error_yielded (Ok value) (List it) h x (xs, (j, same, (t, run))) =
       let r = from_list steps (map (λ y. Ok y) xs ++ Err x ∷ []) it t (subst (λ v. Yields (StepsListed steps) v (map (λ y. Ok y) xs ++ Err x ∷ []) t) same run) in
       absurd (no_error (map (λ y. Ok y) xs) x [] r.0 r.2)
-  error_answered (Err e) (Error o) h x (xs, (j, same, (t, run))) =
+  error_yielded (Err e) (Error o) h x (xs, (j, same, (t, run))) =
       ap (λ z. Err z) (sym (last_error xs x e (begun_error steps (map (λ y. Ok y) xs) x e t (subst (λ v. Yields (StepsListed steps) v (map (λ y. Ok y) xs ++ Err x ∷ []) t) (same ∙ ap (λ p. Error p) h) run))))
 
 -- the items of a list that ends, or one error, end
-pub finite_listed : {U I E : Type 0} (becomes : U → I → Type 0) (can : I → Type 0) (left : I → Count) (answer : Result U E) (s : ListOrError I E) → IteratesOver becomes answer s
-    → IfOk answer (IsFiniteIterable becomes can left) → IsFiniteIterable (λ v k. k ≡ v) (CanList can) (listed_left left) s
+pub finite_listed : {U I E : Type 0} (becomes : U → I → Type 0) (can : I → Type 0) (left : I → Count) (outcome : Result U E) (s : ListOrError I E) → IteratesOver becomes outcome s
+    → IfOk outcome (IsFiniteIterable becomes can left) → IsFiniteIterable (λ v k. k ≡ v) (CanList can) (listed_left left) s
 unfolding IteratesOver
-finite_listed {U} {I} {E} becomes can left answer s h ends it is = subst (λ v. CanList can v × IsFinite (listed_left left v)) (sym is) (ends_of answer s h ends)
+finite_listed {U} {I} {E} becomes can left outcome s h ends it is = subst (λ v. CanList can v × IsFinite (listed_left left v)) (sym is) (ends_of outcome s h ends)
   where
     ends_of : (n : Result U E) (r : ListOrError I E) → IteratesOver becomes n r → IfOk n (IsFiniteIterable becomes can left) → CanList can r × IsFinite (listed_left left r)
     ends_of (Ok value) (List it) h ends = ends it h

@@ -5,7 +5,7 @@ use Rattle.std.proofs.lemmas.List.{get_or_default}
 use Rattle.std.proofs.lemmas.List.Elements.{Contains-append_left, Contains-get_or}
 use Rattle.jj_dag.specs.Graph.{Graph, HasEdge, IsWalkOfLength, StrictlyReaches}
 use Rattle.jj_dag.specs.Collecting.{IsInjective}
-use Rattle.jj_dag.specs.ReadyNodes.{IsReady, TakesGreatestReady, places_graph}
+use Rattle.jj_dag.specs.ReadyNodes.{IsReady, TakesGreatestReady, index_graph}
 use Rattle.jj_dag.proofs.Reaching.{Contains-split}
 use Rattle.jj_dag.proofs.ReadyOrders.{here, later}
 
@@ -46,8 +46,8 @@ module _ (g : Graph) (ns : List ℕ) (ts : List (List ℕ)) (injective : IsInjec
       let e : r.0 ≡ b = injective r.0 b (within a r.0 r.1) lb r.2 in
       subst (λ (n : ℕ). Contains (get_or ts a []) n) e r.1
 
-  place_of : (a : ℕ) → Contains ns a → (k : ℕ) × (k < length ns) × (number k ≡ a)
-  place_of a (k, lt, e) = (k, lt, get_or_default ns k 0 a lt ∙ e)
+  index_of : (a : ℕ) → Contains ns a → (k : ℕ) × (k < length ns) × (number k ≡ a)
+  index_of a (k, lt, e) = (k, lt, get_or_default ns k 0 a lt ∙ e)
 
   numbered : (k : ℕ) → k < length ns → Contains ns (number k)
   numbered k lt = Contains-get_or ns k 0 lt
@@ -62,7 +62,7 @@ module _ (g : Graph) (ns : List ℕ) (ts : List (List ℕ)) (injective : IsInjec
   abbrev pub AtPlaces : (ℕ → ℕ → Type 0) → ℕ → ℕ → Type 0
   AtPlaces P a b = (i j : ℕ) → i < length ns → j < length ns → get_or ns i 0 ≡ a → get_or ns j 0 ≡ b → P i j
 
-  pub relabelled : (P : ℕ → ℕ → Type 0) (order : List ℕ) → TakesGreatestReady (places_graph ts) (λ k. k < length ns) P order
+  pub relabelled : (P : ℕ → ℕ → Type 0) (order : List ℕ) → TakesGreatestReady (index_graph ts) (λ k. k < length ns) P order
       → TakesGreatestReady g (Contains ns) (AtPlaces P) (map (λ k. get_or ns k 0) order)
   relabelled P order k = record {
     ready = λ front back a e.
@@ -71,7 +71,7 @@ module _ (g : Graph) (ns : List ℕ) (ts : List (List ℕ)) (injective : IsInjec
         subst (λ (n : ℕ). IsReady g (Contains ns) front n) s.5 (subst (λ (l : List ℕ). IsReady g (Contains ns) l (number s.1)) s.4 (up s.0 s.1 (below_front s.0 s.2 s.1 s.3) r));
     greatest = λ front back a b e r.
         let s = split_map (λ k. get_or ns k 0) order front back a e in
-        let q = place_of b r.0 in
+        let q = index_of b r.0 in
         let x_in = (k.ready s.0 s.2 s.1 s.3).0 in
         let ready_q = down s.0 q.0 q.1 (below_front s.0 s.2 s.1 s.3) (subst (λ (n : ℕ). IsReady g (Contains ns) (map (λ k. get_or ns k 0) s.0) n) (sym q.2) (subst (λ (l : List ℕ). IsReady g (Contains ns) l b) (sym s.4) r)) in
         let holds = k.greatest s.0 s.2 s.1 q.0 s.3 ready_q in
@@ -87,23 +87,23 @@ module _ (g : Graph) (ns : List ℕ) (ts : List (List ℕ)) (injective : IsInjec
           let s = Contains-split order j in_order in
           (k.ready s.0 s.1 j s.2).0
 
-      up : (front : List ℕ) (x : ℕ) → ((j : ℕ) → Contains front j → j < length ns) → IsReady (places_graph ts) (λ k. k < length ns) front x → IsReady g (Contains ns) (map (λ k. get_or ns k 0) front) (number x)
+      up : (front : List ℕ) (x : ℕ) → ((j : ℕ) → Contains front j → j < length ns) → IsReady (index_graph ts) (λ k. k < length ns) front x → IsReady g (Contains ns) (map (λ k. get_or ns k 0) front) (number x)
       up front x below r = (
         numbered x r.0,
         λ h. r.1 (unnumbered front below x r.0 h),
         λ c is edge.
-            let p = place_of c is in
+            let p = index_of c is in
             let edge_p : HasEdge g (number p.0) (number x) = subst (λ (n : ℕ). HasEdge g n (number x)) (sym p.2) edge in
             subst (λ (n : ℕ). Contains (map (λ k. get_or ns k 0) front) n) p.2 (Contains-map (λ k. get_or ns k 0) front p.0 (r.2 p.0 p.1 (edge_down p.0 x p.1 r.0 edge_p))),
       )
 
-      down : (front : List ℕ) (x : ℕ) → x < length ns → ((j : ℕ) → Contains front j → j < length ns) → IsReady g (Contains ns) (map (λ k. get_or ns k 0) front) (number x) → IsReady (places_graph ts) (λ k. k < length ns) front x
+      down : (front : List ℕ) (x : ℕ) → x < length ns → ((j : ℕ) → Contains front j → j < length ns) → IsReady g (Contains ns) (map (λ k. get_or ns k 0) front) (number x) → IsReady (index_graph ts) (λ k. k < length ns) front x
       down front x lt below r = (lt, λ h. r.1 (Contains-map (λ k. get_or ns k 0) front x h), λ c is edge. unnumbered front below c is (r.2 (number c) (numbered c is) (edge_up c x is edge)))
 
   -- a cycle of the indices is a cycle of the numbers
-  path_up : (n a b : ℕ) → a < length ns → IsWalkOfLength (places_graph ts) a b n → IsWalkOfLength g (number a) (number b) n
+  path_up : (n a b : ℕ) → a < length ns → IsWalkOfLength (index_graph ts) a b n → IsWalkOfLength g (number a) (number b) n
   path_up zero a b lt p = ap (λ k. get_or ns k 0) p
   path_up (suc n) a b lt (c, edge, p) = (number c, edge_up a c lt edge, path_up n c b (within a c edge) p)
 
-  pub StrictlyReaches-up : (a b : ℕ) → a < length ns → StrictlyReaches (places_graph ts) a b → StrictlyReaches g (number a) (number b)
+  pub StrictlyReaches-up : (a b : ℕ) → a < length ns → StrictlyReaches (index_graph ts) a b → StrictlyReaches g (number a) (number b)
   StrictlyReaches-up a b lt s = (s.0, path_up (suc s.0) a b lt s.1)

@@ -8,7 +8,7 @@ use Rattle.std.proofs.lemmas.List.{map-append}
 use Rattle.std.proofs.lemmas.List.Elements.{Contains-append_left}
 use Rattle.std.proofs.lemmas.Bool.{and_from, and_parts}
 use Rattle.jj_dag.specs.Graph.{HasEdge, IsWalkOfLength, ReachedFrom, Precedes, IsTopologicalOrder, IsGreatestTopologicalOrder}
-use Rattle.jj_dag.specs.Walk.{Model, AreNodes}
+use Rattle.jj_dag.specs.Walk.{GraphModel, AreNodes}
 use Rattle.jj_dag.proofs.Collecting.{are_nodes}
 use Rattle.jj_dag.proofs.Reaching.{Contains-split}
 use Rattle.jj_dag.proofs.ReadyOrders.{at_split, distinct, here, later, twice}
@@ -28,11 +28,11 @@ AlwaysReturns-weaker {F} {X} {R} g P Q f h k = record { at = λ xs. each xs f (k
 
 -- The nodes have the numbers of `to`, and `back` is its inverse. A value that is no node has a
 -- number that no node has.
-module _ {T ID : Type 0} (w : Model T ID) (to back : ℕ → ℕ) (unused : ℕ) where
+module _ {T ID : Type 0} (w : GraphModel T ID) (to back : ℕ → ℕ) (unused : ℕ) where
   abbrev pub number_of : ℕ → ℕ
   number_of n = cond (w.is_node n) (to n) unused
 
-  abbrev pub renumbered : Model T ID
+  abbrev pub renumbered : GraphModel T ID
   renumbered = record {
     graph = λ b. map to (w.graph (back b));
     is_node = λ b. w.is_node (back b) && (to (back b) == b);

@@ -1,5 +1,5 @@
 -- Nodes that a walk collected, each with the ids of its neighbours.
--- Cited by contracts of public items: IsFilled, neighbor_places.
+-- Cited by contracts of public items: IsFilled, neighbor_indices.
 use Rattle.std.specs.Prelude.{◌≡◌, ℕ, ◌<◌, Bool, true, Option, Some, MatchOption, List, map, length, slice_index, ◌⊎◌}
 use Rattle.std.specs.declared.result.Result.TheVariants.{Err}
 use Rattle.std.specs.HashMap.{get}
@@ -7,18 +7,18 @@ use Rattle.std.specs.List.{Contains, filter_map}
 use Rattle.jj_dag.specs.declared.greatest_order.IndexedGraph.{IndexedGraph}
 use Rattle.jj_dag.specs.Graph.{HasEdge, ReachedFrom}
 use Rattle.jj_dag.specs.FallibleGraphs.{FallibleGraph}
-use Rattle.jj_dag.specs.Walk.{Model}
+use Rattle.jj_dag.specs.Walk.{GraphModel}
 
 -- as many lists of ids as nodes, all of which are present, and each index is that of a node
 pub record IsFilled {T ID : Type 0} (eq : ID → ID → Bool) (found : IndexedGraph T ID) : Type 0 where
-  pub given : List T
-  pub nodes : found.nodes.items ≡ map (λ x. Some x) given
-  pub ids : length found.neighbor_ids.items ≡ length given
-  pub places : (i : ID) (k : ℕ) → get eq found.index_of i ≡ Some k → k < length given
+  pub visited : List T
+  pub nodes : found.nodes.items ≡ map (λ x. Some x) visited
+  pub ids : length found.neighbor_ids.items ≡ length visited
+  pub indices : (i : ID) (k : ℕ) → get eq found.index_of i ≡ Some k → k < length visited
 
 -- the indices of the neighbours of each node
-abbrev pub neighbor_places : {T ID : Type 0} → (ID → ID → Bool) → IndexedGraph T ID → List (List ℕ)
-neighbor_places eq found =
+abbrev pub neighbor_indices : {T ID : Type 0} → (ID → ID → Bool) → IndexedGraph T ID → List (List ℕ)
+neighbor_indices eq found =
     map (λ v. filter_map (get eq found.index_of) v.items) found.neighbor_ids.items
 
 -- no number is at two indices
@@ -26,25 +26,25 @@ abbrev pub IsInjective : List ℕ → Type 0
 IsInjective ns = (i j : ℕ) → i < length ns → j < length ns → slice_index ns i ≡ slice_index ns j
     → i ≡ j
 
-module _ {T ID E : Type 0} (w : Model T ID) (items : FallibleGraph E) where
+module _ {T ID E : Type 0} (w : GraphModel T ID) (items : FallibleGraph E) where
   -- a look-up of an id returns the index of its node
   abbrev pub Finds : (ID → Option ℕ) → List ℕ → Type 0
   Finds find ns = (i : ID) → w.is_node (w.id i) ≡ true
       → MatchOption (find i) (Contains ns (w.id i) → ⊥)
       (λ k. (k < length ns) × (slice_index ns k ≡ w.id i))
 
-  -- `work` is pending, `given` was visited, and `ids` has the ids of the neighbours of each visited
-  -- node
-  pub record IsCollecting (starts : List ℕ) (find : ID → Option ℕ) (work given : List T)
+  -- `work` is pending, `visited` was visited, and `ids` has the ids of the neighbours of each
+  -- visited node
+  pub record IsCollecting (starts : List ℕ) (find : ID → Option ℕ) (work visited : List T)
       (ids : List (List ID)) : Type 0 where
-    pub waiting_reached : (a : ℕ) → Contains (map w.node work) a → ReachedFrom w.graph starts a
-    pub given_reached : (a : ℕ) → Contains (map w.node given) a → ReachedFrom w.graph starts a
-    pub starts_met : (a : ℕ) → Contains starts a → Contains (map w.node given) a
+    pub pending_reached : (a : ℕ) → Contains (map w.node work) a → ReachedFrom w.graph starts a
+    pub visited_reached : (a : ℕ) → Contains (map w.node visited) a → ReachedFrom w.graph starts a
+    pub starts_visited : (a : ℕ) → Contains starts a → Contains (map w.node visited) a
         ⊎ Contains (map w.node work) a
-    pub closed : (a b : ℕ) → Contains (map w.node given) a → HasEdge w.graph a b
-        → Contains (map w.node given) b ⊎ Contains (map w.node work) b
-    pub injective : IsInjective (map w.node given)
-    pub finds : Finds find (map w.node given)
-    pub lists : map (λ is. map w.id is) ids ≡ map w.graph (map w.node given)
-    pub none_failed : (a : ℕ) (e : E) → Contains (map w.node given) a → Contains (items a) (Err e)
+    pub closed : (a b : ℕ) → Contains (map w.node visited) a → HasEdge w.graph a b
+        → Contains (map w.node visited) b ⊎ Contains (map w.node work) b
+    pub injective : IsInjective (map w.node visited)
+    pub finds : Finds find (map w.node visited)
+    pub lists : map (λ is. map w.id is) ids ≡ map w.graph (map w.node visited)
+    pub none_failed : (a : ℕ) (e : E) → Contains (map w.node visited) a → Contains (items a) (Err e)
         → ⊥

@@ -1,5 +1,5 @@
 -- The closest common nodes of two sets.
--- Cited by contracts of public items through Found, jj_program.GraphCommand.
+-- Cited by contracts of public items through Found, jj_program.GraphCommand, jj_walks.GraphLaws.
 use Rattle.std.specs.Prelude.{◌↔◌, ℕ, List, eqb}
 use Rattle.std.specs.List.{Contains, IsDistinct}
 use Rattle.jj_dag.specs.Graph.{Graph, StrictlyReaches, ReachedFrom, IsMaximal}

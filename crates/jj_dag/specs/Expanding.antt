@@ -19,10 +19,10 @@ use Rattle.jj_dag.specs.Collecting.{IsCollecting, IsFilled}
 use Rattle.jj_dag.specs.FallibleGraphs.{FallibleGraph}
 use Rattle.jj_dag.specs.Graph.{ReachedFrom}
 use Rattle.jj_dag.specs.Outcomes.{IfFails}
-use Rattle.jj_dag.specs.Walk.{AreNodes, Model}
+use Rattle.jj_dag.specs.Walk.{AreNodes, GraphModel}
 
 -- a model's lists, of which no item fails
-abbrev pub whole : {T ID : Type 0} → Model T ID → FallibleGraph (Unit {0})
+abbrev pub whole : {T ID : Type 0} → GraphModel T ID → FallibleGraph (Unit {0})
 whole walk a = map (λ b. Ok b) (walk.graph a)
 
 module _ {T ID E F N U J : Type 0} (eq : ID → ID → Bool)
@@ -39,12 +39,12 @@ module _ {T ID E F N U J : Type 0} (eq : ID → ID → Bool)
         (IsFiniteIterable value.into_iter_gives items.can_next items.remaining) t.id_fn
         t.neighbors_fn
     pub calls : CallsLead lists s.neighbors_fn t.neighbors_fn
-    pub implemented : (walk : Model T ID) → (graph_at s.id_fn s.neighbors_fn).implements walk
+    pub implemented : (walk : GraphModel T ID) → (graph_at s.id_fn s.neighbors_fn).implements walk
         → (graph_at s.id_fn t.neighbors_fn).implements walk
 
   -- these are the neighbours of the node
   abbrev pub ListsNeighbors : Closures F N → T → Vec T Global → Type 0
-  ListsNeighbors s node v = (walk : Model T ID)
+  ListsNeighbors s node v = (walk : GraphModel T ID)
       → (graph_at s.id_fn s.neighbors_fn).implements walk → walk.is_node (walk.node node) ≡ true
       → map walk.node v.items ≡ walk.graph (walk.node node)
 
@@ -56,8 +56,8 @@ module _ {T ID E F N U J : Type 0} (eq : ID → ID → Bool)
     pub failed : IfFails r ((graph_at s.id_fn s.neighbors_fn).fails node)
 
   -- P of each model that the closures implement, and of these nodes in it
-  abbrev pub InModels : Closures F N → List T → (Model T ID → List ℕ → Type 0) → Type 0
-  InModels s starts P = (walk : Model T ID)
+  abbrev pub InModels : Closures F N → List T → (GraphModel T ID → List ℕ → Type 0) → Type 0
+  InModels s starts P = (walk : GraphModel T ID)
       → (graph_at s.id_fn s.neighbors_fn).implements walk → AreNodes walk (map walk.node starts)
       → P walk (map walk.node starts)
 
@@ -65,7 +65,7 @@ module _ {T ID E F N U J : Type 0} (eq : ID → ID → Bool)
   abbrev pub HasCollected : Closures F N → List T → IndexedGraph T ID → Type 0
   HasCollected s starts found = (filled : IsFilled eq found)
       × InModels s starts (λ walk nodes. IsCollecting walk (whole walk) nodes
-      (get eq found.index_of) [] filled.given (map (λ v. v.items) found.neighbor_ids.items))
+      (get eq found.index_of) [] filled.visited (map (λ v. v.items) found.neighbor_ids.items))
 
   pub record CollectsFrom (s : Closures F N) (starts : List T)
       (r : Result (IndexedGraph T ID) (WalkError E)) : Type 0 where

@@ -1,14 +1,13 @@
 -- Graphs whose lists of neighbours may have failed items: an item is a node or an error.
--- Cited by contracts of public items through Asking, Collecting, Found, GreatestOrder, Orders,
--- Outcomes, jj_walks.Chunks, jj_walks.DfsOkSteps, jj_walks.LazySteps, jj_walks.NextChunk,
--- jj_walks.Started.
+-- Cited by contracts of public items through ClosureGraph, Collecting, Expanding,
+-- jj_walks.DfsOkSteps, jj_walks.Expansions, store_walks.Histories.
 use Rattle.std.specs.Prelude.{◌≡◌, ℕ, ◌==◌, Bool, true, List, [], ◌∷◌, ◌++◌, map, reverse, Option, Result}
 use Rattle.std.specs.declared.result.Result.TheVariants.{Ok, Err}
 use Rattle.std.specs.Iterator.{Yields}
 use Rattle.std.specs.List.{Contains, filter_map, list_any}
 use Rattle.std.specs.Result.{result_ok}
 use Rattle.jj_dag.specs.Graph.{Graph}
-use Rattle.jj_dag.specs.Walk.{Model, AreNodes}
+use Rattle.jj_dag.specs.Walk.{GraphModel, AreNodes}
 
 -- each node's items, in their order
 abbrev pub FallibleGraph : Type 0 → Type 0
@@ -19,21 +18,21 @@ abbrev pub ok_items : {X K : Type 0} → List (Result X K) → List X
 ok_items xs = filter_map result_ok xs
 
 -- the graph of the items that did not fail
-abbrev pub sound : {K : Type 0} → FallibleGraph K → Graph
-sound items a = ok_items (items a)
+abbrev pub ok_graph : {K : Type 0} → FallibleGraph K → Graph
+ok_graph items a = ok_items (items a)
 
--- `Preorder` with failed items, which are yielded in turn
-pub data FalliblePreorder {K : Type 0} (g : FallibleGraph K) : (todo given out : List (Result ℕ K))
-    → Type 0 where
-  ended : {given : List (Result ℕ K)} → FalliblePreorder g [] given given
-  failed : {e : K} {todo given out : List (Result ℕ K)}
-      → FalliblePreorder g todo (given ++ Err e ∷ []) out
-      → FalliblePreorder g (Err e ∷ todo) given out
-  passed : {a : ℕ} {todo given out : List (Result ℕ K)} → Contains given (Ok a)
-      → FalliblePreorder g todo given out → FalliblePreorder g (Ok a ∷ todo) given out
-  entered : {a : ℕ} {todo given below out : List (Result ℕ K)} → (Contains given (Ok a) → ⊥)
-      → FalliblePreorder g (reverse (g a)) (given ++ Ok a ∷ []) below
-      → FalliblePreorder g todo below out → FalliblePreorder g (Ok a ∷ todo) given out
+-- `Preorder` with failed items, which are yielded in their order
+pub data FalliblePreorder {K : Type 0} (g : FallibleGraph K)
+    : (todo yielded out : List (Result ℕ K)) → Type 0 where
+  ended : {yielded : List (Result ℕ K)} → FalliblePreorder g [] yielded yielded
+  failed : {e : K} {todo yielded out : List (Result ℕ K)}
+      → FalliblePreorder g todo (yielded ++ Err e ∷ []) out
+      → FalliblePreorder g (Err e ∷ todo) yielded out
+  passed : {a : ℕ} {todo yielded out : List (Result ℕ K)} → Contains yielded (Ok a)
+      → FalliblePreorder g todo yielded out → FalliblePreorder g (Ok a ∷ todo) yielded out
+  entered : {a : ℕ} {todo yielded below out : List (Result ℕ K)} → (Contains yielded (Ok a) → ⊥)
+      → FalliblePreorder g (reverse (g a)) (yielded ++ Ok a ∷ []) below
+      → FalliblePreorder g todo below out → FalliblePreorder g (Ok a ∷ todo) yielded out
 
 -- over the starts too, the last one is walked first
 abbrev pub IsFalliblePreorder : {K : Type 0} → FallibleGraph K → List (Result ℕ K)
@@ -52,8 +51,8 @@ abbrev pub FailsAfterNodes : {U S T E : Type 0} → (U → S → Type 0)
 FailsAfterNodes {S = S} {T = T} becomes steps value error = (xs : List T)
     × ((it : S) × becomes value it × ((t : S) × Yields steps it (map Ok xs ++ Err error ∷ []) t))
 
-module _ {T ID K : Type 0} (w : Model T ID) (items : FallibleGraph K) where
-  -- each number of a sound item in the list is a node
+module _ {T ID K : Type 0} (w : GraphModel T ID) (items : FallibleGraph K) where
+  -- each number of an item in the list that did not fail is a node
   abbrev pub AreOkNodes : List (Result ℕ K) → Type 0
   AreOkNodes xs = AreNodes w (ok_items xs)
 
@@ -61,9 +60,9 @@ module _ {T ID K : Type 0} (w : Model T ID) (items : FallibleGraph K) where
   -- them, and if a walk of `work` (the last of it first) continues them to a list, that is the list
   -- of the walk from the starts.
   pub record IsWalkingItems (starts : List (Result ℕ K)) (test : ID → Bool)
-      (work given : List (Result ℕ K)) : Type 0 where
+      (work yielded : List (Result ℕ K)) : Type 0 where
     pub nodes : AreOkNodes work
     pub knows : (i : ID) → w.is_node (w.id i) ≡ true
-        → test i ≡ list_any (λ a. w.id i == a) (ok_items given)
-    pub rest : (out : List (Result ℕ K)) → FalliblePreorder items (reverse work) given out
+        → test i ≡ list_any (λ a. w.id i == a) (ok_items yielded)
+    pub rest : (out : List (Result ℕ K)) → FalliblePreorder items (reverse work) yielded out
         → FalliblePreorder items (reverse starts) [] out

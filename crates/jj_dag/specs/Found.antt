@@ -6,15 +6,15 @@ use Rattle.jj_dag.specs.ClosureGraph.{ClosureGraph, InEachModelOfTwo, IsNeighbor
 use Rattle.jj_dag.specs.CommonNodes.{AreClosestCommon, HasNoCommonCycle}
 use Rattle.jj_dag.specs.Graph.{IsAcyclicFrom, AreMaximalElements}
 use Rattle.jj_dag.specs.Outcomes.{IfFails}
-use Rattle.jj_dag.specs.Walk.{Model, IsEqualityOfNodes}
+use Rattle.jj_dag.specs.Walk.{GraphModel, IsEqualityOfNodes}
 
 -- where the starts reach no cycle, and equal values are one node, these are the maximal starts
-abbrev pub AreHeads : {T ID : Type 0} → (T → T → Bool) → Model T ID → List ℕ → List T → Type 0
+abbrev pub AreHeads : {T ID : Type 0} → (T → T → Bool) → GraphModel T ID → List ℕ → List T → Type 0
 AreHeads same walk starts heads = IsAcyclicFrom walk.graph starts → IsEqualityOfNodes walk same
     → AreMaximalElements walk.graph starts (map walk.node heads)
 
 -- where no cycle is reached from both sets, these are their closest common nodes
-abbrev pub AreClosestNodes : {T ID : Type 0} → Model T ID → List ℕ → List ℕ → List T → Type 0
+abbrev pub AreClosestNodes : {T ID : Type 0} → GraphModel T ID → List ℕ → List ℕ → List T → Type 0
 AreClosestNodes g set1 set2 closest = HasNoCommonCycle g.graph set1 set2
     → AreClosestCommon g.graph set1 set2 (map g.node closest)
 

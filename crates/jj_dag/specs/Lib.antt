@@ -6,7 +6,7 @@ pub mod Errors
 pub mod ReadyNodes
 pub mod Collecting
 pub mod CommonNodes
-pub mod Marks
+pub mod NodeStates
 pub mod AllOk
 pub mod Stops
 pub mod ListOrError
@@ -16,5 +16,8 @@ pub mod Found
 pub mod GreatestOrder
 pub mod Expanding
 pub mod CommonSearch
+pub mod NodeMaps
+pub mod NodeSets
+pub mod DenseSets
 pub mod HeadsSearch
 pub mod NodeGraph

@@ -1,5 +1,5 @@
 -- The steps of an iterator over the items of a list, or over one error.
--- Cited by contracts of public items: CanList, StepsListed, IteratesOver, listed_left.
+-- Cited by contracts of public items: CanList, IteratesOver, StepsListed, listed_left.
 use Rattle.std.specs.Prelude.{◌≡◌, Option, Result}
 use Rattle.std.specs.Option.{option_map}
 use Rattle.std.specs.declared.option.Option.TheVariants.{None, Some}

@@ -51,7 +51,8 @@ HasNoCommonNodeCycle {A} g set1 set2 = (a : A) → IsCommonNode g set1 set2 a
 
 -- a is in the list before b
 abbrev pub IsNodeBefore : {A : Type 0} → List A → A → A → Type 0
-IsNodeBefore {A} order a b = (front back : List A) × (order ≡ front ++ a ∷ back) × Contains back b
+IsNodeBefore {A} order a b = (prefix suffix : List A) × (order ≡ prefix ++ a ∷ suffix)
+    × Contains suffix b
 
 -- the list has each node that the starts reach once, before every node that it strictly reaches
 pub record IsChildFirstOrder {A : Type 0} (g : NodeGraph A) (starts order : List A) : Type 0 where

@@ -20,9 +20,10 @@ IsReady g IsNode taken b = IsNode b × (Contains taken b → ⊥)
 -- it
 pub record TakesGreatestReady (g : Graph) (IsNode : ℕ → Type 0) (NotBelow : ℕ → ℕ → Type 0)
     (order : List ℕ) : Type 0 where
-  pub ready : (front back : List ℕ) (a : ℕ) → order ≡ front ++ a ∷ back → IsReady g IsNode front a
-  pub greatest : (front back : List ℕ) (a b : ℕ) → order ≡ front ++ a ∷ back
-      → IsReady g IsNode front b → NotBelow a b
+  pub ready : (prefix suffix : List ℕ) (a : ℕ) → order ≡ prefix ++ a ∷ suffix
+      → IsReady g IsNode prefix a
+  pub greatest : (prefix suffix : List ℕ) (a b : ℕ) → order ≡ prefix ++ a ∷ suffix
+      → IsReady g IsNode prefix b → NotBelow a b
 
 -- each node that was not taken has an edge from another such node
 abbrev pub IsStuck : Graph → (ℕ → Type 0) → List ℕ → Type 0
@@ -30,12 +31,12 @@ IsStuck g IsNode taken = (a : ℕ) → IsNode a → (Contains taken a → ⊥) �
     × (Contains taken c → ⊥) × HasEdge g c a
 
 -- the graph whose nodes are the indices of the list
-abbrev pub places_graph : List (List ℕ) → Graph
-places_graph targets k = slice_index_or targets k []
+abbrev pub index_graph : List (List ℕ) → Graph
+index_graph targets k = slice_index_or targets k []
 
 -- how many edges lead to k
-abbrev pub edges_to : List (List ℕ) → ℕ → ℕ
-edges_to targets k = sum_by (λ ts. count_by (eqb k) ts) targets
+abbrev pub in_degree : List (List ℕ) → ℕ → ℕ
+in_degree targets k = sum_by (λ ts. count_by (eqb k) ts) targets
 
 -- the value at a is not below the value at b
 abbrev pub IsNotBelow : {T : Type 0} → (T → T → Ordering) → List (Option T) → ℕ → ℕ → Type 0
@@ -48,7 +49,7 @@ abbrev pub TakesGreatestFirst : {T : Type 0} → (T → T → Ordering) → List
     → Vec T Global × Option T → Type 0
 TakesGreatestFirst cmp slots targets r = (order : List ℕ)
     × (map (λ x. Some x) r.0.items ≡ map (λ k. slice_index_or slots k None) order)
-    × TakesGreatestReady (places_graph targets) (λ k. k < length slots) (IsNotBelow cmp slots) order
+    × TakesGreatestReady (index_graph targets) (λ k. k < length slots) (IsNotBelow cmp slots) order
     × MatchOption r.1 ((k : ℕ) → k < length slots → Contains order k)
     (λ x. (k : ℕ) × (k < length slots) × (slice_index_or slots k None ≡ Some x)
-    × (Contains order k → ⊥) × IsStuck (places_graph targets) (λ k. k < length slots) order)
+    × (Contains order k → ⊥) × IsStuck (index_graph targets) (λ k. k < length slots) order)

@@ -1,4 +1,4 @@
--- The result of a postorder walk, and why it stopped.
+-- The result of a postorder walk, and its errors.
 -- Machinery of private functions and fields.
 use Rattle.std.specs.Prelude.{◌≡◌, ℕ, Bool, false, List, map, Result, IfOk, IfErr}
 use Rattle.std.specs.Global.{Global}
@@ -6,7 +6,7 @@ use Rattle.std.specs.declared.vec.Vec.{Vec}
 use Rattle.jj_dag.specs.ClosureGraph.{ClosureGraph, InEachModel, IsInputError, Listing}
 use Rattle.jj_dag.specs.Graph.{OnCycleFrom, ReachedFrom}
 use Rattle.jj_dag.specs.Orders.{IsWholePostorder}
-use Rattle.jj_dag.specs.Walk.{AreNodes, Model}
+use Rattle.jj_dag.specs.Walk.{AreNodes, GraphModel}
 use Rattle.jj_dag.specs.declared.forward.Stop.{Stop}
 use Rattle.jj_dag.specs.declared.forward.Stop.TheVariants.{Memory, Failed, Cycle}
 
@@ -34,11 +34,11 @@ module _ {T ID E : Type 0} (graph : ClosureGraph T ID E) where
           OnCycleFrom walk.graph nodes (walk.node x))))
 
   module _ (stack : List (T × Bool)) where
-    -- P of each model that the closures implement, and of the nodes that wait on the stack, none
-    -- of which was entered
-    abbrev pub FromStack : (Model T ID → List ℕ → Type 0) → Type 0
+    -- P of each model that the closures implement, and of the nodes on the stack, none of which was
+    -- entered
+    abbrev pub FromStack : (GraphModel T ID → List ℕ → Type 0) → Type 0
     FromStack P = (xs : List T) → stack ≡ map (λ x. (x, false)) xs
-        → (walk : Model T ID) → graph.implements walk → AreNodes walk (map walk.node xs)
+        → (walk : GraphModel T ID) → graph.implements walk → AreNodes walk (map walk.node xs)
         → P walk (map walk.node xs)
 
     -- a walk from such a stack

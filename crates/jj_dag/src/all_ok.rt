@@ -1,4 +1,4 @@
-//! An adapter that wraps each item of an iterator in an `Ok`.
+//! An iterator adapter that wraps each item in an `Ok`.
 use std::marker::PhantomData;
 
 /// Iterates over the items of `I`, each in an `Ok`.

@@ -1,5 +1,5 @@
-//! Closest common nodes (merge bases): a best-first search that marks each node with the sets that
-//! reach it.
+//! Closest common nodes (merge bases): a best-first search with a max-heap that labels each node
+//! with the sets that reach it.
 ghost use Rattle.std.specs.Prelude.{◌≡◌, ◌+◌, ◌≤◌, ◌<◌, ◌^◌, ◌&&◌, ◌∷◌, ◌++◌, [], IfOk, IsTrue, Ok, Err, OnOk, MatchBool, cond, map};
 ghost use Rattle.std.specs.Iterator.{IsFiniteIterable};
 ghost use Rattle.std.specs.BinaryHeap.{heap_items, heap_len};
@@ -9,26 +9,27 @@ ghost use Rattle.indexmap.specs.IndexMap.{insert_entry};
 ghost use Rattle.jj_dag.specs.ClosureGraph.{InEachModelOfTwo, IsNeighborsErrorOfTwo, ReturnsId, graph_of_lists, list_of, IsWalkable};
 ghost use Rattle.jj_dag.specs.Found.{AreClosestNodes, FindsClosestCommon};
 ghost use Rattle.jj_dag.specs.CommonSearch.{SearchesCommon};
-ghost use Rattle.jj_dag.specs.Marks.{MarksAll, state_at, union_of_sides, adds_side, state_with, becomes_pending, without_waiting, propagated, sides_met, closest_of};
+ghost use Rattle.jj_dag.specs.NodeStates.{RelaxesAll, state_at, union_of_sides, adds_side, state_with, becomes_pending, no_longer_pending, propagated, sides_met, closest_of};
 ghost use Rattle.jj_dag.specs.Outcomes.{IfFails};
 
+use crate::node_map::NodeMap;
 use crate::walk_error::WalkError;
 use indexmap::IndexMap;
 use std::alloc::{AllocError, Global};
 use std::collections::{BinaryHeap, HashMap};
 use std::hash::Hash;
 
-// Whether the first set, the second set, and another common node are known to reach a node.
+/// Whether the first set, the second set, and another common node are known to reach a node.
 #[derive(Clone, Copy)]
-struct Sides {
+pub struct Sides {
     left: bool,
     right: bool,
     below: bool,
 }
 
-// The sets that are known to reach a node, and whether the node is pending.
+/// The sets that are known to reach a node, and whether it is pending.
 #[derive(Clone, Copy)]
-struct NodeState {
+pub struct NodeState {
     sides: Sides,
     is_pending: bool,
 }
@@ -100,11 +101,11 @@ impl NodeState {
 }
 
 // Returns the state of the node with this id.
-fn state_of<ID: Hash + Eq>(known: &HashMap<ID, NodeState>, id: &ID) -> NodeState
-    ensures { result ≡ state_at ID.eq known.now id.now }
+fn state_of<ID: Eq, M: NodeMap<ID, NodeState>>(known: &M, id: &ID) -> NodeState
+    ensures { result ≡ state_at ID.eq (M.entries known.now) id.now }
 {
     match known.get(id) {
-        Some(state) => *state,
+        Some(state) => state,
         None => NodeState {
             sides: Sides {
                 left: false,
@@ -117,45 +118,54 @@ fn state_of<ID: Hash + Eq>(known: &HashMap<ID, NodeState>, id: &ID) -> NodeState
 }
 
 // Adds to the state of a node. If another set reaches it now, it becomes pending.
-fn relax<T: Ord + Drop, ID: Hash + Eq + Drop>(
-    known: &mut HashMap<ID, NodeState>,
-    waiting: &mut BinaryHeap<T>,
+fn relax<T: Ord + Drop, ID: Eq + Drop, M: NodeMap<ID, NodeState>>(
+    known: &mut M,
+    pending: &mut BinaryHeap<T>,
     node: T,
     id: ID,
     sides: Sides,
 ) -> Result<(), AllocError>
-    ensures known { OnOk result ((i : ID) → state_at ID.eq known.new i
-        ≡ cond (ID.eq id i) (state_with (state_at ID.eq known.old id) sides)
-        (state_at ID.eq known.old i)) }
-    ensures waiting { OnOk result (MatchBool (becomes_pending (state_at ID.eq known.old id) sides)
-        (IsPermutation (node ∷ heap_items waiting.old) (heap_items waiting.new))
-        (heap_items waiting.new ≡ heap_items waiting.old)) }
-    ensures balance { OnOk result (sides_met known.old + heap_len waiting.new
-        ≤ sides_met known.new + heap_len waiting.old) }
-    ensures small { OnOk result (sides_met known.new < 2 ^ 64) }
+    ensures known { OnOk result ((i : ID) → state_at ID.eq (M.entries known.new) i
+        ≡ cond (ID.eq id i) (state_with (state_at ID.eq (M.entries known.old) id) sides)
+        (state_at ID.eq (M.entries known.old) i)) }
+    ensures pending { OnOk result (MatchBool
+        (becomes_pending (state_at ID.eq (M.entries known.old) id) sides)
+        (IsPermutation (node ∷ heap_items pending.old) (heap_items pending.new))
+        (heap_items pending.new ≡ heap_items pending.old)) }
+    ensures balance { OnOk result (sides_met (M.entries known.old) + heap_len pending.new
+        ≤ sides_met (M.entries known.new) + heap_len pending.old) }
+    ensures small { OnOk result (sides_met (M.entries known.new) < 2 ^ 64) }
 {
     let state = state_of(known, &id);
     known.insert(id, state.with_sides(sides))?;
     // A map never has 2^63 ids, so the search ends.
     let _count = known.len();
     if state.becomes_pending(sides) {
-        waiting.push(node)?;
+        pending.push(node)?;
     }
     Ok(())
 }
 
 // Returns the state of a pending node, and makes the node no longer pending.
-fn take_queued<ID: Hash + Eq>(known: &mut HashMap<ID, NodeState>, id: &ID) -> Sides
-    ensures sides { result ≡ (state_at ID.eq known.old id.now).sides }
-    ensures known { IsTrue (state_at ID.eq known.old id.now).is_pending → (i : ID)
-        → state_at ID.eq known.new i ≡ cond (ID.eq id.now i)
-        (without_waiting (state_at ID.eq known.old id.now)) (state_at ID.eq known.old i) }
-    ensures side_count { sides_met known.new ≡ sides_met known.old }
+fn take_queued<ID: Eq, M: NodeMap<ID, NodeState>>(known: &mut M, id: &ID) -> Sides
+    ensures sides { result ≡ (state_at ID.eq (M.entries known.old) id.now).sides }
+    ensures known { IsTrue (state_at ID.eq (M.entries known.old) id.now).is_pending → (i : ID)
+        → state_at ID.eq (M.entries known.new) i ≡ cond (ID.eq id.now i)
+        (no_longer_pending (state_at ID.eq (M.entries known.old) id.now))
+        (state_at ID.eq (M.entries known.old) i) }
+    ensures side_count { sides_met (M.entries known.new) ≡ sides_met (M.entries known.old) }
 {
-    match known.get_mut(id) {
+    match known.get(id) {
         Some(state) => {
-            state.is_pending = false;
-            state.sides
+            let sides = state.sides;
+            known.update(
+                id,
+                NodeState {
+                    sides,
+                    is_pending: false,
+                },
+            );
+            sides
         }
         None => Sides {
             left: false,
@@ -181,25 +191,18 @@ fn keep_common<T: Drop, ID: Hash + Eq + Drop>(
     Ok(())
 }
 
-// The common nodes that were found, by id and in the order found, and the states of all nodes.
-#[derive(Drop)]
-struct FoundNodes<T, ID: Hash + Eq> {
-    common: IndexMap<ID, T>,
-    known: HashMap<ID, NodeState>,
-}
-
 // Returns the candidates that no other common node is known to reach.
-fn closest<T: Drop, ID: Hash + Eq + Drop>(
+fn closest<T: Drop, ID: Hash + Eq + Drop, M: NodeMap<ID, NodeState>>(
     alloc: Global,
-    met: FoundNodes<T, ID>,
+    known: &M,
+    common: IndexMap<ID, T>,
 ) -> Result<Vec<T>, AllocError>
-    ensures { IfOk result (λ v. v.items ≡ closest_of (state_at ID.eq met.known)
-        met.common.entries) }
+    ensures { IfOk result (λ v. v.items ≡ closest_of (state_at ID.eq (M.entries known.now))
+        common.entries) }
 {
-    let FoundNodes { common, known } = met;
     let mut closest = Vec::new(alloc);
     for (id, node) in common {
-        if !state_of(&known, &id).sides.below {
+        if !state_of(known, &id).sides.below {
             closest.push(node)?;
         }
     }
@@ -209,13 +212,14 @@ fn closest<T: Drop, ID: Hash + Eq + Drop>(
 /// Returns the nodes that both sets reach and that no other such node reaches, each once. The
 /// greatest pending node is expanded next, at most once for one set and once for both; the search
 /// ends early if one node is pending, both sets reach it, and no root (a node without neighbours)
-/// was found. `Node` is the error of a list.
+/// was found. Fails with `Node` of the error of the first list that failed, and with `Memory` if
+/// memory runs out. Takes `O(n log n + e)` for n nodes and e edges.
 pub fn closest_common_nodes<T: Ord + Drop, ID: Hash + Eq + Drop, E: Drop, II1, II2, NI, F, N>(
     alloc: Global,
     set1: II1,
     set2: II2,
     id_fn: F,
-    mut neighbors_fn: N,
+    neighbors_fn: N,
 ) -> Result<Vec<T>, WalkError<E>>
 where
     II1: IntoIterator<Item = T, IntoIter: Drop>,
@@ -237,50 +241,89 @@ where
         (list_of II1.IntoIterator II1.IntoIter.Iterator set1)
         (list_of II2.IntoIterator II2.IntoIter.Iterator set2)) }
 {
-    let met = common_nodes(alloc, set1, set2, &id_fn, &mut neighbors_fn)?;
-    Ok(closest(alloc, met)?)
+    let mut known: HashMap<ID, NodeState> = HashMap::new(alloc);
+    closest_common_nodes_in(alloc, &mut known, set1, set2, id_fn, neighbors_fn)
+}
+
+/// Returns `closest_common_nodes`, with the states of nodes in this map, which must be empty. A
+/// caller that reuses it allocates once.
+pub fn closest_common_nodes_in<T: Ord + Drop, ID: Hash + Eq + Drop, E: Drop, M, II1, II2, NI, F, N>(
+    alloc: Global,
+    known: &mut M,
+    set1: II1,
+    set2: II2,
+    id_fn: F,
+    mut neighbors_fn: N,
+) -> Result<Vec<T>, WalkError<E>>
+where
+    M: NodeMap<ID, NodeState>,
+    II1: IntoIterator<Item = T, IntoIter: Drop>,
+    II2: IntoIterator<Item = T, IntoIter: Drop> + Drop,
+    NI: IntoIterator<Item = T, IntoIter: Drop>,
+    F: Fn(&T) -> Result<ID, AllocError> + Drop,
+    N: FnMut(&T) -> Result<NI, E> + Drop,
+    requires graph { (graph_of_lists ID.eq F.Fn N.FnMut NI.IntoIterator NI.IntoIter.Iterator id_fn
+        neighbors_fn).walkable }
+    requires set1 { (list_of {E = E} II1.IntoIterator II1.IntoIter.Iterator set1).finite }
+    requires set2 { (list_of {E = E} II2.IntoIterator II2.IntoIter.Iterator set2).finite }
+    requires none_known { M.entries known.old ≡ [] }
+    ensures closest { IfOk result (λ v. InEachModelOfTwo
+        (graph_of_lists ID.eq F.Fn N.FnMut NI.IntoIterator NI.IntoIter.Iterator id_fn neighbors_fn)
+        (list_of II1.IntoIterator II1.IntoIter.Iterator set1)
+        (list_of II2.IntoIterator II2.IntoIter.Iterator set2)
+        (λ g nodes1 nodes2. AreClosestNodes g nodes1 nodes2 v.items)) }
+    ensures error { IfFails result (IsNeighborsErrorOfTwo
+        (graph_of_lists ID.eq F.Fn N.FnMut NI.IntoIterator NI.IntoIter.Iterator id_fn neighbors_fn)
+        (list_of II1.IntoIterator II1.IntoIter.Iterator set1)
+        (list_of II2.IntoIterator II2.IntoIter.Iterator set2)) }
+{
+    let common = common_nodes(alloc, known, set1, set2, &id_fn, &mut neighbors_fn)?;
+    Ok(closest(alloc, known, common)?)
 }
 
 // Adds to the state of each node of a list. Returns whether the list is empty.
-fn mark_all<T: Ord + Drop, ID: Hash + Eq + Drop, I, F>(
-    known: &mut HashMap<ID, NodeState>,
-    waiting: &mut BinaryHeap<T>,
+fn relax_all<T: Ord + Drop, ID: Eq + Drop, M, I, F>(
+    known: &mut M,
+    pending: &mut BinaryHeap<T>,
     nodes: I,
     id_fn: &F,
     sides: Sides,
 ) -> Result<bool, AllocError>
 where
+    M: NodeMap<ID, NodeState>,
     I: IntoIterator<Item = T, IntoIter: Drop>,
     F: Fn(&T) -> Result<ID, AllocError>,
     requires id_fn { F.IsAlwaysCallable id_fn.now }
     requires nodes { IsFiniteIterable I.into_iter_gives I.IntoIter.can_next I.IntoIter.remaining
         nodes }
-    ensures marks { IfOk result (MarksAll ID.eq (ReturnsId F.Fn id_fn.now) I.into_iter_gives
-        I.IntoIter.next_gives nodes sides (state_at ID.eq known.old) (state_at ID.eq known.new)
-        (heap_items waiting.old) (heap_items waiting.new)) }
-    ensures balance { OnOk result (sides_met known.old + heap_len waiting.new
-        ≤ sides_met known.new + heap_len waiting.old) }
-    ensures small { OnOk result (sides_met known.old < 2 ^ 64 → sides_met known.new < 2 ^ 64) }
+    ensures states { IfOk result (RelaxesAll ID.eq (ReturnsId F.Fn id_fn.now) I.into_iter_gives
+        I.IntoIter.next_gives nodes sides (state_at ID.eq (M.entries known.old))
+        (state_at ID.eq (M.entries known.new)) (heap_items pending.old) (heap_items pending.new)) }
+    ensures balance { OnOk result (sides_met (M.entries known.old) + heap_len pending.new
+        ≤ sides_met (M.entries known.new) + heap_len pending.old) }
+    ensures small { OnOk result (sides_met (M.entries known.old) < 2 ^ 64
+        → sides_met (M.entries known.new) < 2 ^ 64) }
 {
     let mut empty = true;
     for node in nodes {
         empty = false;
         let id = id_fn(&node)?;
-        relax(known, waiting, node, id, sides)?;
+        relax(known, pending, node, id, sides)?;
     }
     Ok(empty)
 }
 
 // Adds to the state of each neighbour of a node. Returns whether there is none.
-fn mark_neighbors<T: Ord + Drop, ID: Hash + Eq + Drop, E: Drop, NI, F, N>(
-    known: &mut HashMap<ID, NodeState>,
-    waiting: &mut BinaryHeap<T>,
+fn relax_neighbors<T: Ord + Drop, ID: Eq + Drop, E: Drop, M, NI, F, N>(
+    known: &mut M,
+    pending: &mut BinaryHeap<T>,
     id_fn: &F,
     neighbors_fn: &mut N,
     node: &T,
     sides: Sides,
 ) -> Result<bool, WalkError<E>>
 where
+    M: NodeMap<ID, NodeState>,
     NI: IntoIterator<Item = T, IntoIter: Drop>,
     F: Fn(&T) -> Result<ID, AllocError>,
     N: FnMut(&T) -> Result<NI, E>,
@@ -288,71 +331,74 @@ where
         NI.IntoIter.can_next NI.IntoIter.remaining)) id_fn.now neighbors_fn.old }
     ensures graph { IsWalkable F.Fn N.FnMut (λ r. IfOk r (IsFiniteIterable NI.into_iter_gives
         NI.IntoIter.can_next NI.IntoIter.remaining)) id_fn.now neighbors_fn.new }
-    ensures marks { IfOk result (λ empty. (list : NI)
+    ensures states { IfOk result (λ empty. (list : NI)
         × CalledAt N.FnMut neighbors_fn.old node.now (Ok list) neighbors_fn.new
-        × MarksAll ID.eq (ReturnsId F.Fn id_fn.now) NI.into_iter_gives NI.IntoIter.next_gives
-        list sides (state_at ID.eq known.old) (state_at ID.eq known.new) (heap_items waiting.old)
-        (heap_items waiting.new) empty) }
-    ensures balance { OnOk result (sides_met known.old + heap_len waiting.new
-        ≤ sides_met known.new + heap_len waiting.old) }
-    ensures small { OnOk result (sides_met known.old < 2 ^ 64 → sides_met known.new < 2 ^ 64) }
+        × RelaxesAll ID.eq (ReturnsId F.Fn id_fn.now) NI.into_iter_gives NI.IntoIter.next_gives
+        list sides (state_at ID.eq (M.entries known.old)) (state_at ID.eq (M.entries known.new))
+        (heap_items pending.old) (heap_items pending.new) empty) }
+    ensures balance { OnOk result (sides_met (M.entries known.old) + heap_len pending.new
+        ≤ sides_met (M.entries known.new) + heap_len pending.old) }
+    ensures small { OnOk result (sides_met (M.entries known.old) < 2 ^ 64
+        → sides_met (M.entries known.new) < 2 ^ 64) }
     ensures refused { IfFails result (λ error.
         CalledAt N.FnMut neighbors_fn.old node.now (Err error) neighbors_fn.new) }
 {
     match neighbors_fn(node) {
-        Ok(list) => Ok(mark_all(known, waiting, list, id_fn, sides)?),
+        Ok(list) => Ok(relax_all(known, pending, list, id_fn, sides)?),
         Err(error) => Err(WalkError::Node(error)),
     }
 }
 
 // Expands the greatest pending node until the search ends, and collects those that both sets
 // reach.
-fn search<T: Ord + Drop, ID: Hash + Eq + Drop, E: Drop, NI, F, N>(
-    met: &mut FoundNodes<T, ID>,
-    waiting: &mut BinaryHeap<T>,
+fn search<T: Ord + Drop, ID: Hash + Eq + Drop, E: Drop, M, NI, F, N>(
+    known: &mut M,
+    common: &mut IndexMap<ID, T>,
+    pending: &mut BinaryHeap<T>,
     id_fn: &F,
     neighbors_fn: &mut N,
 ) -> Result<(), WalkError<E>>
 where
+    M: NodeMap<ID, NodeState>,
     NI: IntoIterator<Item = T, IntoIter: Drop>,
     F: Fn(&T) -> Result<ID, AllocError>,
     N: FnMut(&T) -> Result<NI, E>,
     requires graph { IsWalkable F.Fn N.FnMut (λ r. IfOk r (IsFiniteIterable NI.into_iter_gives
         NI.IntoIter.can_next NI.IntoIter.remaining)) id_fn.now neighbors_fn.old }
-    requires small { sides_met met.old.known < 2 ^ 64 }
-    requires none { met.old.common.entries ≡ [] }
+    requires small { sides_met (M.entries known.old) < 2 ^ 64 }
+    requires none { common.old.entries ≡ [] }
     ensures { SearchesCommon (graph_of_lists ID.eq F.Fn N.FnMut NI.IntoIterator
-        NI.IntoIter.Iterator id_fn.now neighbors_fn.old) (state_at ID.eq met.old.known)
-        (heap_items waiting.old) result
-        (λ _. closest_of (state_at ID.eq met.new.known) met.new.common.entries) }
+        NI.IntoIter.Iterator id_fn.now neighbors_fn.old) (state_at ID.eq (M.entries known.old))
+        (heap_items pending.old) result
+        (λ _. closest_of (state_at ID.eq (M.entries known.new)) common.new.entries) }
 {
     let mut root_met = false;
-    while let Some(node) = waiting.pop() {
+    while let Some(node) = pending.pop() {
         let id = id_fn(&node)?;
-        let sides = take_queued(&mut met.known, &id);
-        if sides.is_common() && waiting.is_empty() && !root_met {
-            met.common.insert(id, node)?;
+        let sides = take_queued(known, &id);
+        if sides.is_common() && pending.is_empty() && !root_met {
+            common.insert(id, node)?;
             return Ok(());
         }
         let above = sides.propagated();
-        match mark_neighbors(&mut met.known, waiting, id_fn, neighbors_fn, &node, above) {
-            Ok(is_root) => root_met |= is_root,
-            Err(refused) => return Err(refused),
-        }
-        keep_common(&mut met.common, sides, node, id)?;
+        let is_root = relax_neighbors(known, pending, id_fn, neighbors_fn, &node, above)?;
+        root_met |= is_root;
+        keep_common(common, sides, node, id)?;
     }
     Ok(())
 }
 
-// Returns the common nodes that the search finds.
-fn common_nodes<T: Ord + Drop, ID: Hash + Eq + Drop, E: Drop, II1, II2, NI, F, N>(
+// Returns the common nodes that the search finds, by id and in the order found.
+fn common_nodes<T: Ord + Drop, ID: Hash + Eq + Drop, E: Drop, M, II1, II2, NI, F, N>(
     alloc: Global,
+    known: &mut M,
     set1: II1,
     set2: II2,
     id_fn: &F,
     neighbors_fn: &mut N,
-) -> Result<FoundNodes<T, ID>, WalkError<E>>
+) -> Result<IndexMap<ID, T>, WalkError<E>>
 where
+    M: NodeMap<ID, NodeState>,
     II1: IntoIterator<Item = T, IntoIter: Drop>,
     II2: IntoIterator<Item = T, IntoIter: Drop> + Drop,
     NI: IntoIterator<Item = T, IntoIter: Drop>,
@@ -364,21 +410,17 @@ where
         II1.IntoIter.remaining set1 }
     requires set2 { IsFiniteIterable II2.into_iter_gives II2.IntoIter.can_next
         II2.IntoIter.remaining set2 }
+    requires none_known { M.entries known.old ≡ [] }
     ensures { FindsClosestCommon (graph_of_lists ID.eq F.Fn N.FnMut NI.IntoIterator
         NI.IntoIter.Iterator id_fn.now neighbors_fn.old)
         (list_of II1.IntoIterator II1.IntoIter.Iterator set1)
         (list_of II2.IntoIterator II2.IntoIter.Iterator set2) result
-        (λ met. closest_of (state_at ID.eq met.known) met.common.entries) }
+        (λ common. closest_of (state_at ID.eq (M.entries known.new)) common.entries) }
 {
-    let mut met = FoundNodes {
-        common: IndexMap::new(alloc),
-        known: HashMap::new(alloc),
-    };
-    let mut waiting = BinaryHeap::new(alloc);
-    mark_all(&mut met.known, &mut waiting, set1, id_fn, Sides::LEFT)?;
-    mark_all(&mut met.known, &mut waiting, set2, id_fn, Sides::RIGHT)?;
-    match search(&mut met, &mut waiting, id_fn, neighbors_fn) {
-        Ok(()) => Ok(met),
-        Err(refused) => Err(refused),
-    }
+    let mut common = IndexMap::new(alloc);
+    let mut pending = BinaryHeap::new(alloc);
+    relax_all(known, &mut pending, set1, id_fn, Sides::LEFT)?;
+    relax_all(known, &mut pending, set2, id_fn, Sides::RIGHT)?;
+    search(known, &mut common, &mut pending, id_fn, neighbors_fn)?;
+    Ok(common)
 }

@@ -1,4 +1,4 @@
-//! The closures of a graph, and the nodes that starts reach by depth-first search.
+//! The closures of a graph, and collection of the reachable nodes by depth-first search.
 ghost use Rattle.std.specs.Prelude.{IfOk};
 ghost use Rattle.std.specs.Iterator.{IsFiniteIterable};
 ghost use Rattle.std.specs.List.{AllZip};
@@ -18,7 +18,7 @@ pub struct Closures<F, N> {
     pub neighbors_fn: N,
 }
 
-/// Returns the ids of these nodes, in their order.
+/// Returns the ids of these nodes, in their order. Fails if memory runs out.
 pub fn ids_of<T, ID: Drop, F: Fn(&T) -> Result<ID, AllocError>>(
     alloc: Global,
     id_fn: &F,
@@ -36,7 +36,8 @@ pub fn ids_of<T, ID: Drop, F: Fn(&T) -> Result<ID, AllocError>>(
 }
 
 impl<F, N> Closures<F, N> {
-    /// Returns the neighbours of a node.
+    /// Returns the neighbours of a node. Fails with `Node` of the error of the first item that
+    /// failed, and with `Memory` if memory runs out.
     pub fn neighbors<T: Drop, ID: Hash + Eq + Drop, E: Drop, NI>(
         &mut self,
         alloc: Global,
@@ -55,7 +56,8 @@ impl<F, N> Closures<F, N> {
     }
 
     /// Returns all nodes that the starts reach, in the order of visits: the last start and the last
-    /// neighbour first.
+    /// neighbour first. Fails with `Node` of the error of the first item that failed, and with
+    /// `Memory` if memory runs out.
     pub fn collect<T: Drop, ID: Hash + Eq + Drop, E: Drop, NI>(
         &mut self,
         alloc: Global,
@@ -77,10 +79,7 @@ impl<F, N> Closures<F, N> {
             if found.index_of.contains_key(&id) {
                 continue;
             }
-            let mut neighbors = match self.neighbors(alloc, &node) {
-                Ok(neighbors) => neighbors,
-                Err(refused) => return Err(refused),
-            };
+            let mut neighbors = self.neighbors(alloc, &node)?;
             let ids = ids_of(alloc, &self.id_fn, &neighbors)?;
             found.add_node(node, id, ids)?;
             stack.append(&mut neighbors)?;

@@ -8,7 +8,8 @@ ghost use Rattle.jj_dag.specs.Walk.{DrainsTo};
 use crate::walk_error::WalkError;
 use std::alloc::Global;
 
-/// Returns the nodes of the items, or the error of the first that failed.
+/// Returns the nodes of the items. Fails with `Node` of the error of the first item that failed,
+/// and with `Memory` if memory runs out.
 pub fn collect_ok<T: Drop, E: Drop, L>(alloc: Global, items: L) -> Result<Vec<T>, WalkError<E>>
 where
     L: IntoIterator<Item = Result<T, E>, IntoIter: Drop>,

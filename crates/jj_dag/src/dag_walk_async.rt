@@ -1,6 +1,6 @@
 //! Walks over items that may fail, under the names of the asynchronous walks. They are not
 //! asynchronous.
-pub use crate::closest_common::closest_common_nodes;
+pub use crate::closest_common::{NodeState, closest_common_nodes, closest_common_nodes_in};
 pub use crate::greatest_order::topo_order_reverse_ord;
 pub use crate::maximal_lists::heads;
 pub use crate::topo_order::{

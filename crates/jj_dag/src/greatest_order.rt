@@ -5,11 +5,11 @@ ghost use Rattle.std.specs.List.{Contains, filter_map};
 ghost use Rattle.std.specs.List.Sorted.{IsPermutation};
 ghost use Rattle.std.specs.BinaryHeap.{heap_items, KeepsHeap};
 ghost use Rattle.std.specs.Ordering.{nat_cmp, ordering_then};
-ghost use Rattle.jj_dag.specs.Collecting.{IsFilled, neighbor_places};
+ghost use Rattle.jj_dag.specs.Collecting.{IsFilled, neighbor_indices};
 ghost use Rattle.jj_dag.specs.ClosureGraph.{InEachModel, IsInputError, IsMadeBesideCycle, graph_of_items, list_of_items};
 ghost use Rattle.jj_dag.specs.GreatestOrder.{IsGreatestOrder};
 ghost use Rattle.jj_dag.specs.Outcomes.{IfFails};
-ghost use Rattle.jj_dag.specs.ReadyNodes.{TakesGreatestFirst, edges_to, places_graph};
+ghost use Rattle.jj_dag.specs.ReadyNodes.{TakesGreatestFirst, in_degree, index_graph};
 
 use crate::closures::Closures;
 use crate::collect_ok::collect_ok;
@@ -20,9 +20,9 @@ use std::hash::Hash;
 use std::mem;
 
 /// Returns the nodes that the starts reach, each before its neighbours; the next node is always the
-/// greatest whose children all came before. A failed start or neighbour is `Node` of its error; if
-/// a cycle is reached, `Node` is `cycle_fn` of some node that the starts reach. Takes
-/// `O(n log n + e)` for n nodes and e edges.
+/// greatest whose children all came before. Fails with `Node` of the error of a failed start or
+/// neighbour, with `Node` of `cycle_fn` of some node that the starts reach if they reach a cycle,
+/// and with `Memory` if memory runs out. Takes `O(n log n + e)` for n nodes and e edges.
 pub fn topo_order_reverse_ord<T: Ord + Drop, ID: Hash + Eq + Drop, E: Drop, II, NI, F, N, C>(
     alloc: Global,
     start: II,
@@ -51,18 +51,12 @@ where
         (graph_of_items ID.eq F.Fn N.FnMut NI.IntoIterator NI.IntoIter.Iterator id_fn neighbors_fn)
         (list_of_items II.IntoIterator II.IntoIter.Iterator start) e) }
 {
-    let nodes = match collect_ok(alloc, start) {
-        Ok(nodes) => nodes,
-        Err(refused) => return Err(refused),
-    };
+    let nodes = collect_ok(alloc, start)?;
     let mut graph = Closures {
         id_fn,
         neighbors_fn,
     };
-    let found = match graph.collect(alloc, nodes) {
-        Ok(found) => found,
-        Err(refused) => return Err(refused),
-    };
+    let found = graph.collect(alloc, nodes)?;
     let (order, left) = found.into_greatest_order(alloc)?;
     match left {
         Some(node) => Err(WalkError::Node(cycle_fn(node))),
@@ -72,26 +66,27 @@ where
 
 // Moves the node at this index, if it is still pending, to the ready nodes.
 fn make_ready<T: Ord + Drop>(
-    waiting: &mut Vec<Option<T>>,
+    pending: &mut Vec<Option<T>>,
     ready: &mut BinaryHeap<(T, usize)>,
     index: usize,
 ) -> Result<(), AllocError>
-    requires { index < length waiting.old.items }
-    ensures waiting { OnOk result (waiting.new.items ≡ slice_set waiting.old.items index None) }
-    ensures ready { OnOk result (MatchOption (slice_index_or waiting.old.items index None)
+    requires { index < length pending.old.items }
+    ensures pending { OnOk result (pending.new.items ≡ slice_set pending.old.items index None) }
+    ensures ready { OnOk result (MatchOption (slice_index_or pending.old.items index None)
         (heap_items ready.new ≡ heap_items ready.old)
         (λ x. IsPermutation ((x, index) ∷ heap_items ready.old) (heap_items ready.new))) }
     ensures heap_order { OnOk result (KeepsHeap
         (λ x y. ordering_then (T.cmp x.0 y.0) (nat_cmp x.1 y.1)) (heap_items ready.old)
         (heap_items ready.new)) }
 {
-    if let Some(node) = mem::replace(&mut waiting[index], None) {
+    if let Some(node) = mem::replace(&mut pending[index], None) {
         ready.push((node, index))?;
     }
     Ok(())
 }
 
-/// The nodes that a walk visited, in that order, and the ids of the neighbours of each.
+/// Adjacency lists of ids: the nodes that a walk visited, in that order, and the ids of the
+/// neighbours of each.
 #[derive(Drop)]
 pub struct IndexedGraph<T, ID: Hash + Eq> {
     pub nodes: Vec<Option<T>>,
@@ -100,11 +95,11 @@ pub struct IndexedGraph<T, ID: Hash + Eq> {
 }
 
 impl<T: Drop, ID: Hash + Eq + Drop> IndexedGraph<T, ID> {
-    /// Creates it without nodes.
+    /// Creates an empty graph.
     pub fn new(alloc: Global) -> Self
         ensures nodes { result.nodes.items ≡ [] }
         ensures ids { result.neighbor_ids.items ≡ [] }
-        ensures places { (i : ID) → get ID.eq result.index_of i ≡ None }
+        ensures indices { (i : ID) → get ID.eq result.index_of i ≡ None }
     {
         IndexedGraph {
             nodes: Vec::new(alloc),
@@ -113,13 +108,13 @@ impl<T: Drop, ID: Hash + Eq + Drop> IndexedGraph<T, ID> {
         }
     }
 
-    /// Appends a node.
+    /// Appends a node with its id and the ids of its neighbours. Fails if memory runs out.
     pub fn add_node(&mut self, node: T, id: ID, neighbor_ids: Vec<ID>) -> Result<(), AllocError>
         ensures nodes { OnOk result (self.new.nodes.items
             ≡ self.old.nodes.items ++ Some node ∷ []) }
         ensures ids { OnOk result (self.new.neighbor_ids.items
             ≡ self.old.neighbor_ids.items ++ neighbor_ids ∷ []) }
-        ensures places { OnOk result ((i : ID) → get ID.eq self.new.index_of i
+        ensures indices { OnOk result ((i : ID) → get ID.eq self.new.index_of i
             ≡ cond (ID.eq id i) (Some (length self.old.nodes.items))
             (get ID.eq self.old.index_of i)) }
     {
@@ -131,12 +126,12 @@ impl<T: Drop, ID: Hash + Eq + Drop> IndexedGraph<T, ID> {
 }
 
 impl<T: Ord + Drop, ID: Hash + Eq + Drop> IndexedGraph<T, ID> {
-    /// Returns the nodes in the greatest topological order, and a node that is left if there is a
-    /// cycle.
+    /// Returns the nodes in the greatest topological order by Kahn's algorithm, and a node that is
+    /// left if there is a cycle. Fails if memory runs out.
     pub fn into_greatest_order(self, alloc: Global) -> Result<(Vec<T>, Option<T>), AllocError>
         requires { IsFilled ID.eq self }
         ensures { IfOk result
-            (TakesGreatestFirst T.cmp self.nodes.items (neighbor_places ID.eq self)) }
+            (TakesGreatestFirst T.cmp self.nodes.items (neighbor_indices ID.eq self)) }
     {
         let IndexedGraph {
             nodes,
@@ -159,51 +154,51 @@ fn link<ID: Hash + Eq + Drop>(
         ≡ map (λ v. filter_map (get ID.eq index_of.now) v.items) neighbor_ids.now) }
     ensures counts { IfOk result (λ r. length r.1.items ≡ length neighbor_ids.now) }
     ensures indegrees { IfOk result (λ r. (k : ℕ) → k < length neighbor_ids.now
-        → slice_index r.1.items k ≡ edges_to (map (λ v. v.items) r.0.items) k) }
+        → slice_index r.1.items k ≡ in_degree (map (λ v. v.items) r.0.items) k) }
 {
     let mut indegrees: Vec<usize> = vec![in alloc; 0; neighbor_ids.len()]?;
     let mut targets = Vec::new(alloc);
     for ids in neighbor_ids {
-        let mut places = Vec::new(alloc);
+        let mut indices = Vec::new(alloc);
         for id in ids {
-            if let Some(place) = index_of.get(id) {
-                let place = *place;
+            if let Some(index) = index_of.get(id) {
+                let index = *index;
                 // More edges than a `usize` counts do not fit into memory.
-                let Some(count) = indegrees[place].checked_add(1) else {
+                let Some(count) = indegrees[index].checked_add(1) else {
                     return Err(AllocError);
                 };
-                indegrees[place] = count;
-                places.push(place)?;
+                indegrees[index] = count;
+                indices.push(index)?;
             }
         }
-        targets.push(places)?;
+        targets.push(indices)?;
     }
     Ok((targets, indegrees))
 }
 
-// Takes the greatest node all of whose children were taken, as long as there is one. Returns also
-// one of the nodes that are left, which are all on or below a cycle.
+// Kahn's algorithm with a max-heap. Returns the order and, if nodes on or below a cycle are left,
+// one of them.
 fn take_greatest_first<T: Ord + Drop>(
     alloc: Global,
-    mut waiting: Vec<Option<T>>,
+    mut pending: Vec<Option<T>>,
     targets: &[Vec<usize>],
     mut indegrees: Vec<usize>,
 ) -> Result<(Vec<T>, Option<T>), AllocError>
-    requires present { (k : ℕ) → k < length waiting.items
-        → IsSome (slice_index_or waiting.items k None) }
-    requires lists { length targets.now ≡ length waiting.items }
-    requires counts { length indegrees.items ≡ length waiting.items }
-    requires within { (a b : ℕ) → Contains (places_graph (map (λ ts. ts.items) targets.now) a) b
-        → b < length waiting.items }
-    requires indegrees { (k : ℕ) → k < length waiting.items
-        → slice_index indegrees.items k ≡ edges_to (map (λ ts. ts.items) targets.now) k }
-    ensures { IfOk result (TakesGreatestFirst T.cmp waiting.items
+    requires present { (k : ℕ) → k < length pending.items
+        → IsSome (slice_index_or pending.items k None) }
+    requires lists { length targets.now ≡ length pending.items }
+    requires counts { length indegrees.items ≡ length pending.items }
+    requires within { (a b : ℕ) → Contains (index_graph (map (λ ts. ts.items) targets.now) a) b
+        → b < length pending.items }
+    requires indegrees { (k : ℕ) → k < length pending.items
+        → slice_index indegrees.items k ≡ in_degree (map (λ ts. ts.items) targets.now) k }
+    ensures { IfOk result (TakesGreatestFirst T.cmp pending.items
         (map (λ ts. ts.items) targets.now)) }
 {
     let mut ready = BinaryHeap::new(alloc);
     for index in 0..indegrees.len() {
         if indegrees[index] == 0 {
-            make_ready(&mut waiting, &mut ready, index)?;
+            make_ready(&mut pending, &mut ready, index)?;
         }
     }
     let mut order = Vec::new(alloc);
@@ -213,13 +208,13 @@ fn take_greatest_first<T: Ord + Drop>(
             let target = *target;
             indegrees[target] -= 1;
             if indegrees[target] == 0 {
-                make_ready(&mut waiting, &mut ready, target)?;
+                make_ready(&mut pending, &mut ready, target)?;
             }
         }
     }
-    for left in 0..waiting.len() {
-        if waiting[left].is_some() {
-            return Ok((order, waiting.swap_remove(left)));
+    for left in 0..pending.len() {
+        if pending[left].is_some() {
+            return Ok((order, pending.swap_remove(left)));
         }
     }
     Ok((order, None))

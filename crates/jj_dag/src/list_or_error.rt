@@ -1,4 +1,4 @@
-//! An adapter for lists of neighbours that may fail as a whole.
+//! An iterator adapter for lists of neighbours that may fail as a whole.
 ghost use Rattle.jj_dag.specs.ListOrError.{IteratesOver};
 
 /// Iterates over the items of a list, each in an `Ok`, or yields one error.
@@ -36,11 +36,11 @@ impl<I: Iterator, E: Drop> Iterator for ListOrError<I, E> {
 
 /// Returns the iterator over a result's list, or over its error.
 pub fn as_list_or_error<L: IntoIterator, E: Drop>(
-    answer: Result<L, E>,
+    outcome: Result<L, E>,
 ) -> ListOrError<L::IntoIter, E>
-    ensures { IteratesOver L.into_iter_gives answer result }
+    ensures { IteratesOver L.into_iter_gives outcome result }
 {
-    match answer {
+    match outcome {
         Ok(list) => ListOrError::List(list.into_iter()),
         Err(error) => ListOrError::Error(Some(error)),
     }

@@ -14,7 +14,9 @@ use std::collections::HashSet;
 use std::hash::Hash;
 use std::marker::PhantomData;
 
-/// Returns the heads where a list of neighbours may fail as a whole: `Node` is the error of a list.
+/// Returns the nodes of `start` that no other of them reaches. Fails with `Node` of the error of
+/// the first list that failed, and with `Memory` if memory runs out. Takes `O(n + e)` for n nodes
+/// and e edges.
 pub fn heads<T: Hash + Eq + Clone + Drop, ID: Hash + Eq + Drop, E: Drop, II, NI, F, N>(
     alloc: Global,
     start: II,
@@ -44,9 +46,9 @@ where
     };
     let items_fn = move |node: &T|
         requires { N.IsAlwaysCallable neighbors_fn }
-        ensures { (answer : Result NI E)
-            × N.step neighbors_fn.entry node.entry answer neighbors_fn.exit
-            × IteratesOver NI.into_iter_gives answer result }
+        ensures { (outcome : Result NI E)
+            × N.step neighbors_fn.entry node.entry outcome neighbors_fn.exit
+            × IteratesOver NI.into_iter_gives outcome result }
     { as_list_or_error(neighbors_fn(node)) };
     heads_ok(alloc, start, id_fn, items_fn)
 }

@@ -1,5 +1,5 @@
 use Rattle.std.proofs.Common.{◌≡◌, ◌++◌, ◌∷◌, [], List, true, false, not, cond, filter, map, ap, sym, ◌∙◌, append_assoc}
-use Rattle.jj_dag.specs.Marks.{state_at, closest_of}
+use Rattle.jj_dag.specs.NodeStates.{state_at, closest_of}
 use Rattle.jj_dag.specs.declared.closest_common.NodeState.{NodeState}
 use Rattle.jj_dag.proofs.closest_common.closest.Goals.{then-not-state_of+in_ok-push, else-not-state_of}
 use Rattle.jj_dag.proofs.closest_common.closest.Goals as goal
@@ -24,7 +24,7 @@ left_out {T} {ID} find s t all ys zs x i m is e first before same =
 
 pub loop-id-preserved : goal.loop-id-preserved
 loop-id-preserved g c =
-    let find = state_at g.ID.PartialEq.eq c.args.met.known in
+    let find = state_at g.ID.PartialEq.eq (g.M.NodeMap.entries c.args.known.now) in
     record {
       closest = elim c.if-not-state_of.branch [
         | then-not-state_of+in_ok-push w ↦ kept find c.loop-id.id-iterator c.next.new.self (closest_of find c.into_iter-id-iterator.result) c.loop-id.closest.items c.if-not-state_of.closest.items

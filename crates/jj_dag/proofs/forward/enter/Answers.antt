@@ -3,7 +3,7 @@ use Rattle.std.proofs.lemmas.Bool.{not-true}
 use Rattle.std.proofs.lemmas.Fn.{called_at}
 use Rattle.std.proofs.lemmas.Result.{IfErr-weaker, on_ok_weaker}
 use Rattle.jj_dag.proofs.Calling.{failed_weaker}
-use Rattle.jj_dag.proofs.Clones.{contains-clone, contains-put_clone}
+use Rattle.jj_dag.proofs.Clones.{is_member-clone, Updates-clone}
 use Rattle.jj_dag.proofs.Walking.{AlwaysReturns-call}
 use Rattle.jj_dag.proofs.forward.enter.Goals as goal
 
@@ -45,12 +45,12 @@ pub returns-clause-first : goal.returns-clause-first
 returns-clause-first g c =
     let same = c.requires.clones c.args.id.now c.in_ok-clone.field-0 c.in_ok-clone.ensures.cases in
     let new = not-true _ (sym c.in_ok-insert.ensures.added ∙ c.if-not-branch.false) in
-    on_ok_weaker c.push_all.result (λ k. contains-clone g.met.ID.Eq.laws c.args.visiting.now c.args.id.now c.in_ok-clone.field-0 same ∙ new) c.push_all.ensures.nodes
+    on_ok_weaker c.push_all.result (λ k. is_member-clone g.met.ID.Eq.laws (g.V.NodeSet.keys c.args.visiting.now) c.args.id.now c.in_ok-clone.field-0 same ∙ new) c.push_all.ensures.nodes
 
 pub returns-clause-visiting : goal.returns-clause-visiting
 returns-clause-visiting g c =
     let same = c.requires.clones c.args.id.now c.in_ok-clone.field-0 c.in_ok-clone.ensures.cases in
-    on_ok_weaker c.push_all.result (λ k. contains-put_clone g.met.ID.Eq.laws c.args.visiting.now c.insert.new.self c.args.id.now c.in_ok-clone.field-0 same c.in_ok-insert.ensures.updates.0) c.push_all.ensures.nodes
+    on_ok_weaker c.push_all.result (λ k. Updates-clone g.met.ID.Eq.laws (g.V.NodeSet.keys c.args.visiting.now) (g.V.NodeSet.keys c.insert.new.self) c.args.id.now c.in_ok-clone.field-0 same c.in_ok-insert.ensures.updates) c.push_all.ensures.nodes
 
 pub returns-clause-count : goal.returns-clause-count
 returns-clause-count g c = on_ok_weaker c.push_all.result (λ k. search rules) c.push_all.ensures.nodes

@@ -1,5 +1,5 @@
 use Rattle.std.proofs.Common.{rules, append-nil, append_assoc, ◌≡◌, ◌++◌, ◌∷◌, [], Ok, false, map, refl, sym, ◌∙◌, ap}
-use Rattle.jj_dag.proofs.FailingOrders.{begins_failed, drained_nodes, ok-push, waiting-push}
+use Rattle.jj_dag.proofs.FailingOrders.{begins_failed, drained_nodes, ok-push, pending-push}
 use Rattle.jj_dag.proofs.forward.push_all.Goals as goal
 
 pub loop-item-init : goal.loop-item-init
@@ -19,7 +19,7 @@ loop-item-preserved g c =
         before.0 ++ c.in-Ok.node ∷ [],
         ap (λ x. c.loop-item.yielded ++ x ∷ []) is ∙ ok-push c.loop-item.yielded before.0 c.in-Ok.node before.1,
         more ∙ ap (λ l. l ++ (c.in-Ok.node, false) ∷ []) before.2 ∙ append_assoc c.args.stack.now.items (map (λ x. (x, false)) before.0) ((c.in-Ok.node, false) ∷ [])
-            ∙ ap (λ l. c.args.stack.now.items ++ l) (sym (waiting-push before.0 c.in-Ok.node)),
+            ∙ ap (λ l. c.args.stack.now.items ++ l) (sym (pending-push before.0 c.in-Ok.node)),
       );
     }
 

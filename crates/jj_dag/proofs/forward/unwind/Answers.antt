@@ -1,6 +1,7 @@
 use Rattle.std.proofs.Common.{rules, length, append-nil, ◌≡◌, true, false, ◌++◌, ◌∷◌, [], map, ap, arith}
 use Rattle.std.proofs.lemmas.Grind.{common_steps}
 use Rattle.std.proofs.lemmas.List.{length_push}
+use Rattle.std.proofs.lemmas.Result.{err_from_is_err_and}
 use Rattle.jj_dag.specs.ClosureGraph.CallsLead.{none}
 use Rattle.jj_dag.specs.ClosureGraph.MayReturn.{at_once}
 use Rattle.jj_dag.proofs.Calling.{cycle_weaker, failed_weaker}
@@ -13,14 +14,14 @@ use Rattle.jj_dag.proofs.forward.unwind.Goals as goal
 
 pub loop-node-init : goal.loop-node-init
 loop-node-init g c =
-    let visiting : c.new-visiting.result.keys ≡ [] = c.new-visiting.ensures.empty in
-    let emitted : c.new-emitted.result.keys ≡ [] = c.new-emitted.ensures.empty in
+    let visiting : g.V.NodeSet.keys c.args.visiting.now ≡ [] = c.requires.none_visiting in
+    let emitted : g.V.NodeSet.keys c.args.emitted.now ≡ [] = c.requires.none_emitted in
     record {
       can = c.requires.graph;
       calls = none;
-      walking = λ xs waits walk implemented nodes. (
+      walking = λ xs queued walk implemented nodes. (
         implemented,
-        rw (waits, from_top-neighbors walk [] xs, c.new-given.ensures.items, append-nil) (unwinding_starts walk (numbers walk xs) nodes (λ i. rw visiting) (λ i. rw emitted)),
+        rw (queued, from_top-neighbors walk [] xs, c.new-order.ensures.items, append-nil) (unwinding_starts walk (numbers walk xs) nodes (λ i. rw visiting) (λ i. rw emitted)),
       );
     }
 
@@ -33,8 +34,8 @@ loop-node-preserved-then-contains g c =
     record {
       can = before.can;
       calls = before.calls;
-      walking = λ xs waits walk implemented nodes.
-          let known = before.walking xs waits walk implemented nodes in
+      walking = λ xs queued walk implemented nodes.
+          let known = before.walking xs queued walk implemented nodes in
           let top = rw (e, from_top-push walk) at known.1 in (
             known.0,
             unwinding_passed walk (walk.node node) c.in-Some.neighbors_visited id top
@@ -49,16 +50,16 @@ loop-node-preserved-then-neighbors_visited g c =
     let id = c.in_ok-id.id in
     let e : c.loop-node.stack.items ≡ c.pop.new.self.items ++ (node, c.in-Some.neighbors_visited) ∷ [] = c.in-Some.ensures.items in
     let flag : c.in-Some.neighbors_visited ≡ true = c.if-neighbors_visited.true in
-    let more : c.finish.new.given.items ≡ c.loop-node.given.items ++ node ∷ [] = c.in_ok-finish.ensures.given in
+    let more : c.finish.new.order.items ≡ c.loop-node.order.items ++ node ∷ [] = c.in_ok-finish.ensures.order in
     record {
       can = before.can;
       calls = before.calls;
-      walking = λ xs waits walk implemented nodes.
-          let known = before.walking xs waits walk implemented nodes in
+      walking = λ xs queued walk implemented nodes.
+          let known = before.walking xs queued walk implemented nodes in
           let top = rw (e, from_top-push walk, flag) at known.1 in (
             known.0,
             rw (more, numbers-push walk) (unwinding_finished walk g.ID.PartialEq.eq _ _ (walk.node node) id implemented.apart top
-                (implemented.ids_match node id (top_is_node walk (walk.node node) true top) (returns_id g.F.Fn c.id_fn.ensures c.in_ok-id.was)) c.in_ok-finish.ensures.visiting.0 c.in_ok-finish.ensures.emitted.0),
+                (implemented.ids_match node id (top_is_node walk (walk.node node) true top) (returns_id g.F.Fn c.id_fn.ensures c.in_ok-id.was)) c.in_ok-finish.ensures.visiting c.in_ok-finish.ensures.emitted),
           );
     }
 
@@ -69,14 +70,14 @@ loop-node-preserved g c =
     let id = c.in_ok-id.id in
     let e : c.loop-node.stack.items ≡ c.pop.new.self.items ++ (node, c.in-Some.neighbors_visited) ∷ [] = c.in-Some.ensures.items in
     let flag : c.in-Some.neighbors_visited ≡ false = c.if-neighbors_visited.false in
-    let did = c.in-Ok.ensures.neighbors in
+    let did = c.in_ok-enter.ensures.neighbors in
     let ys = did.1 in
     let above : c.enter.new.stack.items ≡ (c.pop.new.self.items ++ (node, true) ∷ []) ++ map (λ y. (y, false)) ys = did.4 in
     record {
-      can = record { id_fn = before.can.id_fn; neighbors_fn = c.in-Ok.ensures.neighbors_fn; lists = c.in-Ok.ensures.lists };
+      can = record { id_fn = before.can.id_fn; neighbors_fn = c.in_ok-enter.ensures.neighbors_fn; lists = c.in_ok-enter.ensures.lists };
       calls = leads_on before.calls did.2;
-      walking = λ xs waits walk implemented nodes.
-          let known = before.walking xs waits walk implemented nodes in
+      walking = λ xs queued walk implemented nodes.
+          let known = before.walking xs queued walk implemented nodes in
           let turn = implements_after walk g.ID.PartialEq.eq g.F.Fn g.N.FnMut _ known.0 did.2 in
           let top = rw (e, from_top-push walk, flag) at known.1 in
           let here = top_is_node walk (walk.node node) false top in
@@ -84,40 +85,41 @@ loop-node-preserved g c =
             turn.0,
             rw (above, from_top-neighbors walk, from_top-push walk, listed)
                 (unwinding_entered walk g.ID.PartialEq.eq _ (walk.node node) id implemented.closed implemented.apart top
-                (implemented.ids_match node id here (returns_id g.F.Fn c.id_fn.ensures c.in_ok-id.was)) c.if-contains.ensures c.in-Ok.ensures.first c.in-Ok.ensures.visiting),
+                (implemented.ids_match node id here (returns_id g.F.Fn c.id_fn.ensures c.in_ok-id.was)) c.if-contains.ensures c.in_ok-enter.ensures.first c.in_ok-enter.ensures.visiting),
           );
     }
 
-pub returns-in-Err : goal.returns-in-Err
-returns-in-Err g c =
+pub returns-in_err-enter : goal.returns-in_err-enter
+returns-in_err-enter g c =
     let before = c.loop-node.invariant in
     let node = c.in-Some.node in
     let id = c.in_ok-id.id in
     let e : c.loop-node.stack.items ≡ c.pop.new.self.items ++ (node, c.in-Some.neighbors_visited) ∷ [] = c.in-Some.ensures.items in
     let flag : c.in-Some.neighbors_visited ≡ false = c.if-neighbors_visited.false in
-    record {
+    let p = err_from_is_err_and c.from_residual-in_err-enter.result c.from_residual-in_err-enter.ensures.1 in
+    rw (p.1, p.2) (record {
       order = tt;
-      failed = failed_weaker c.in-Err.stop _ _ (λ error did. (
+      failed = failed_weaker c.in_err-enter.field-0.0 _ _ (λ error did. (
         node,
         (did.0, may_return_later before.calls (at_once did.1), did.2),
-        λ xs waits walk implemented nodes.
-            let top = rw (e, from_top-push walk, flag) at (before.walking xs waits walk implemented nodes).1 in here_reached walk top,
-      )) c.in-Err.ensures.failed;
-      cycle = cycle_weaker c.in-Err.stop _ _ (λ x again. λ xs waits walk implemented nodes.
-          let top = rw (e, from_top-push walk, flag) at (before.walking xs waits walk implemented nodes).1 in
-          rw again.0 (unwinding_cycle walk (walk.node node) id top (implemented.ids_match node id (top_is_node walk (walk.node node) false top) (returns_id g.F.Fn c.id_fn.ensures c.in_ok-id.was)) again.1)) c.in-Err.ensures.cycle;
-    }
+        λ xs queued walk implemented nodes.
+            let top = rw (e, from_top-push walk, flag) at (before.walking xs queued walk implemented nodes).1 in here_reached walk top,
+      )) c.in_err-enter.ensures.failed;
+      cycle = cycle_weaker c.in_err-enter.field-0.0 _ _ (λ x again. λ xs queued walk implemented nodes.
+          let top = rw (e, from_top-push walk, flag) at (before.walking xs queued walk implemented nodes).1 in
+          rw again.0 (unwinding_cycle walk (walk.node node) id top (implemented.ids_match node id (top_is_node walk (walk.node node) false top) (returns_id g.F.Fn c.id_fn.ensures c.in_ok-id.was)) again.1)) c.in_err-enter.ensures.cycle;
+    })
 
 pub returns : goal.returns
 returns g c = record {
   order =
       let empty : c.loop-node.stack.items ≡ [] = first_of (search rules, grind (arith, common_steps)) in
-      λ xs waits walk implemented nodes.
-      let known = c.loop-node.invariant.walking xs waits walk implemented nodes in
-      let whole = (rw empty at known.1).rest (numbers walk c.loop-node.given.items) ended in
+      λ xs queued walk implemented nodes.
+      let known = c.loop-node.invariant.walking xs queued walk implemented nodes in
+      let whole = (rw empty at known.1).rest (numbers walk c.loop-node.order.items) ended in
       record {
         postorder = whole;
-        no_cycle = IsAcyclicFrom-from_postorder walk.graph (numbers walk xs) (numbers walk c.loop-node.given.items) whole;
+        no_cycle = IsAcyclicFrom-from_postorder walk.graph (numbers walk xs) (numbers walk c.loop-node.order.items) whole;
       };
   failed = tt;
   cycle = tt;
@@ -144,8 +146,8 @@ loop-node-smaller-then-neighbors_visited g c =
       arith,
       ap length c.in-Some.ensures.items,
       length_push c.pop.new.self.items (c.in-Some.node, c.in-Some.neighbors_visited),
-      ap length c.in_ok-finish.ensures.given,
-      length_push c.loop-node.given.items c.in-Some.node,
+      ap length c.in_ok-finish.ensures.order,
+      length_push c.loop-node.order.items c.in-Some.node,
       c.in_ok-finish.ensures.count,
     )
 

@@ -1,6 +1,6 @@
 use Rattle.std.proofs.Common.{◌+◌, ◌-◌, ◌*◌, ◌^◌, length}
-use Rattle.std.specs.HashSet.{contains, hash_set_len}
 use Rattle.std.specs.Iterator.{IsFiniteIterable}
+use Rattle.std.specs.Set.{is_member}
 use Rattle.jj_dag.specs.ClosureGraph.{CallsLead, graph_of_items, IsWalkable}
 use Rattle.jj_dag.specs.Stops.{FromStack}
 use Rattle.jj_dag.proofs.Unwinding.{IsUnwinding, from_top}
@@ -15,8 +15,8 @@ invariant-loop-node g l =
       calls : CallsLead g.N.FnMut l.initial.neighbors_fn l.neighbors_fn;
       walking : FromStack (graph l.initial.neighbors_fn) l.initial.stack.items (λ walk nodes.
           (graph l.neighbors_fn).implements walk
-          × IsUnwinding walk nodes (contains g.ID.PartialEq.eq l.visiting) (contains g.ID.PartialEq.eq l.emitted) (from_top walk l.stack.items) (numbers walk l.given.items));
+          × IsUnwinding walk nodes (is_member g.ID.PartialEq.eq (g.V.NodeSet.keys l.visiting)) (is_member g.ID.PartialEq.eq (g.V.NodeSet.keys l.emitted)) (from_top walk l.stack.items) (numbers walk l.order.items));
     }
 
 abbrev pub decreases-loop-node : goal.decreases-loop-node
-decreases-loop-node g l = (2 ^ 65 - (hash_set_len l.visiting + length l.given.items)) * 2 ^ 64 + length l.stack.items
+decreases-loop-node g l = (2 ^ 65 - (length (g.V.NodeSet.keys l.visiting) + length l.order.items)) * 2 ^ 64 + length l.stack.items

@@ -13,22 +13,22 @@ loop-id-preserved g c =
     let lt : c.loop-id.id-index < length c.deref-id-items.result.now = omega arith in
     elim c.match-get.branch [
       | in-Some+in-Some-checked_add+in_ok-push w ↦
-          let place = w.in-Some.place.now in
-          let found : get g.ID.PartialEq.eq c.args.index_of.now c.id-item.result ≡ Some place = sym w.in-Some.ensures.value in
-          let within : place < length c.args.neighbor_ids.now = c.requires c.id-item.result place found in
+          let index = w.in-Some.index.now in
+          let found : get g.ID.PartialEq.eq c.args.index_of.now c.id-item.result ≡ Some index = sym w.in-Some.ensures.value in
+          let within : index < length c.args.neighbor_ids.now = c.requires c.id-item.result index found in
           record {
-            lengths = rw (w.indegrees-is) (length-set c.loop-id.indegrees.items place w.in-Some-checked_add.count ∙ before.lengths);
-            counts = rw (w.indegrees-is, w.places-is, w.in_ok-push.ensures.items)
-                (counts_edge (length c.args.neighbor_ids.now) c.loop-id.indegrees.items c.loop-id.places.items (map (λ v. v.items) c.loop-ids.targets.items) place w.index.result.now w.in-Some-checked_add.count before.counts (omega arith) w.index.ensures w.in-Some-checked_add.ensures.1);
-            places = rw (w.places-is, w.in_ok-push.ensures.items, before.places)
-                (sym (filter_map_found (get g.ID.PartialEq.eq c.args.index_of.now) c.deref-id-items.result.now c.loop-id.id-index c.id-item.result place lt c.id-item.is found));
+            lengths = rw (w.indegrees-is) (length-set c.loop-id.indegrees.items index w.in-Some-checked_add.count ∙ before.lengths);
+            counts = rw (w.indegrees-is, w.indices-is, w.in_ok-push.ensures.items)
+                (counts_edge (length c.args.neighbor_ids.now) c.loop-id.indegrees.items c.loop-id.indices.items (map (λ v. v.items) c.loop-ids.targets.items) index w.index.result.now w.in-Some-checked_add.count before.counts (omega arith) w.index.ensures w.in-Some-checked_add.ensures.1);
+            indices = rw (w.indices-is, w.in_ok-push.ensures.items, before.indices)
+                (sym (filter_map_found (get g.ID.PartialEq.eq c.args.index_of.now) c.deref-id-items.result.now c.loop-id.id-index c.id-item.result index lt c.id-item.is found));
           }
       | in_default w ↦
           let missed : get g.ID.PartialEq.eq c.args.index_of.now c.id-item.result ≡ None = sym w.in_default.ensures.value in
           record {
             lengths = rw (w.indegrees-is) before.lengths;
-            counts = rw (w.indegrees-is, w.places-is) before.counts;
-            places = rw (w.places-is, before.places)
+            counts = rw (w.indegrees-is, w.indices-is) before.counts;
+            indices = rw (w.indices-is, before.indices)
                 (sym (filter_map_missed (get g.ID.PartialEq.eq c.args.index_of.now) c.deref-id-items.result.now c.loop-id.id-index c.id-item.result lt c.id-item.is missed));
           }
     ]
@@ -44,13 +44,13 @@ pub loop-id-init : goal.loop-id-init
 loop-id-init g c = search rules
 
 pub index-requires : goal.index-requires
-index-requires g c = omega (arith, c.loop-id.invariant.lengths, c.requires c.id-item.result c.in-Some.place.now (sym c.in-Some.ensures.value))
+index-requires g c = omega (arith, c.loop-id.invariant.lengths, c.requires c.id-item.result c.in-Some.index.now (sym c.in-Some.ensures.value))
 
 pub checked_add-requires : goal.checked_add-requires
 checked_add-requires g c = search rules
 
 pub index_mut-requires : goal.index_mut-requires
-index_mut-requires g c = omega (arith, c.loop-id.invariant.lengths, c.requires c.id-item.result c.in-Some.place.now (sym c.in-Some.ensures.value))
+index_mut-requires g c = omega (arith, c.loop-id.invariant.lengths, c.requires c.id-item.result c.in-Some.index.now (sym c.in-Some.ensures.value))
 
 pub loop-id-smaller : goal.loop-id-smaller
 loop-id-smaller g c = search rules
@@ -61,16 +61,16 @@ loop-ids-smaller g c = search rules
 pub loop-ids-preserved : goal.loop-ids-preserved
 loop-ids-preserved g c =
     let h = get g.ID.PartialEq.eq c.args.index_of.now in
-    let more : map (λ v. v.items) c.push-in-loop-ids.new.self.items ≡ map (λ v. v.items) c.loop-ids.targets.items ++ c.loop-id.places.items ∷ [] =
+    let more : map (λ v. v.items) c.push-in-loop-ids.new.self.items ≡ map (λ v. v.items) c.loop-ids.targets.items ++ c.loop-id.indices.items ∷ [] =
     rw (c.in_ok-push-2.ensures.items, map_push) refl in
-    let whole : c.loop-id.places.items ≡ filter_map h c.ids-item.result.items =
-    c.loop-id.invariant.places ∙ ap (filter_map h) (take_all c.loop-id.id-index c.deref-id-items.result.now (omega arith) ∙ c.deref-id-items.ensures.value) in
+    let whole : c.loop-id.indices.items ≡ filter_map h c.ids-item.result.items =
+    c.loop-id.invariant.indices ∙ ap (filter_map h) (take_all c.loop-id.id-index c.deref-id-items.result.now (omega arith) ∙ c.deref-id-items.ensures.value) in
     record {
       lengths = c.loop-id.invariant.lengths;
       counts = rw more
-          (counts_list (length c.args.neighbor_ids.now) c.loop-id.indegrees.items c.loop-id.places.items (map (λ v. v.items) c.loop-ids.targets.items)
+          (counts_list (length c.args.neighbor_ids.now) c.loop-id.indegrees.items c.loop-id.indices.items (map (λ v. v.items) c.loop-ids.targets.items)
           c.loop-id.invariant.counts);
-      targets = more ∙ ap (λ ls. ls ++ c.loop-id.places.items ∷ []) c.loop-ids.invariant.targets
+      targets = more ∙ ap (λ ls. ls ++ c.loop-id.indices.items ∷ []) c.loop-ids.invariant.targets
           ∙ ap (λ l. map (λ v. filter_map h v.items) (take c.loop-ids.ids-index c.args.neighbor_ids.now) ++ l ∷ []) whole
           ∙ sym (map_one_more (λ v. filter_map h v.items) c.args.neighbor_ids.now c.loop-ids.ids-index c.ids-item.result (omega arith) c.ids-item.is);
     }

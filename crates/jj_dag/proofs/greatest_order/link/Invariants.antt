@@ -14,6 +14,6 @@ invariant-loop-ids g l = record {
 abbrev pub invariant-loop-id : goal.invariant-loop-id
 invariant-loop-id g l = record {
   lengths : length l.indegrees.items ≡ length l.neighbor_ids;
-  counts : AreCounts (length l.neighbor_ids) l.indegrees.items (map (λ v. v.items) l.targets.items) l.places.items;
-  places : l.places.items ≡ filter_map (get g.ID.PartialEq.eq l.index_of) (take l.id-index l.id-items);
+  counts : AreCounts (length l.neighbor_ids) l.indegrees.items (map (λ v. v.items) l.targets.items) l.indices.items;
+  indices : l.indices.items ≡ filter_map (get g.ID.PartialEq.eq l.index_of) (take l.id-index l.id-items);
 }

@@ -10,7 +10,7 @@ use Rattle.jj_dag.proofs.maximal.visit_neighbors.Goals as goal
 pub loop-neighbor-init : goal.loop-neighbor-init
 loop-neighbor-init g c =
     let ends = (AlwaysReturns-call g.N.FnMut _ c.requires.graph.lists c.neighbors_fn-neighbor-items.ensures).0 c.into_iter-neighbor-iterator.result c.into_iter-neighbor-iterator.ensures.into_iter_gives in
-    record { can = ends.0; finite = ends.1; unique = c.requires.unique; balance = refl; grows = omega arith; sound = ([], refl, none, refl) }
+    record { can = ends.0; finite = ends.1; balance = refl; grows = omega arith; sound = ([], refl, none, refl) }
 
 pub loop-neighbor-preserved : goal.loop-neighbor-preserved
 loop-neighbor-preserved g c =
@@ -22,7 +22,6 @@ loop-neighbor-preserved g c =
     record {
       can = search rules;
       finite = search rules;
-      unique = did.unique;
       balance = omega (arith, before.balance, did.balance);
       grows = omega (arith, before.grows, did.grows);
       sound = (

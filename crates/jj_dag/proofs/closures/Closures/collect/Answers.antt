@@ -1,6 +1,7 @@
 use Rattle.std.proofs.Common.{rules, arith, ◌≡◌, [], refl, sym, ◌∙◌, ap, map, length, Some}
 use Rattle.std.proofs.lemmas.Grind.{common_steps}
 use Rattle.std.proofs.lemmas.List.{length-map, map_push}
+use Rattle.std.proofs.lemmas.Result.{err_from_is_err_and}
 use Rattle.std.specs.HashMap.{get}
 use Rattle.jj_dag.proofs.Collecting.{are_nodes, collecting_entered, collecting_passed, collecting_starts, some_of, top_reached}
 use Rattle.jj_dag.proofs.Errors.{node_weaker}
@@ -10,16 +11,16 @@ use Rattle.jj_dag.proofs.ClosureGraphs.{returns_id}
 use Rattle.jj_dag.proofs.Wrapped.{all_sound}
 use Rattle.jj_dag.proofs.Starts.{of_collected}
 use Rattle.jj_dag.proofs.TakingReady.{none_is}
-use Rattle.jj_dag.proofs.Walking.{left-given}
+use Rattle.jj_dag.proofs.Walking.{left-yielded}
 use Rattle.jj_dag.proofs.closures.Closures.collect.Goals as goal
 
 pub loop-node-init : goal.loop-node-init
 loop-node-init g c = record {
   graph = implements-none g.ID.PartialEq.eq g.F.Fn g.N.FnMut g.NI.IntoIterator g.NI.IntoIter.Iterator _ c.requires;
   found = (
-    record { given = []; nodes = c.new-found.ensures.nodes; ids = ap length c.new-found.ensures.ids; places = λ i k found. let none = rw (c.new-found.ensures.places i) at found in absurd cc },
+    record { visited = []; nodes = c.new-found.ensures.nodes; ids = ap length c.new-found.ensures.ids; indices = λ i k found. let none = rw (c.new-found.ensures.indices i) at found in absurd cc },
     λ walk implemented nodes. collecting_starts walk (whole walk) c.args.start.items c.args.start.items [] (map (λ v. v.items) c.new-found.result.neighbor_ids.items) _ refl refl
-        (ap (map (λ v. v.items)) c.new-found.ensures.ids) c.new-found.ensures.places,
+        (ap (map (λ v. v.items)) c.new-found.ensures.ids) c.new-found.ensures.indices,
   );
 }
 
@@ -42,40 +43,42 @@ loop-node-preserved g c =
     let node = c.in-Some.node in
     let id = c.in_ok-id.id in
     let told = rw before.graph.id_fn at (returns_id g.F.Fn c.id_fn.ensures c.in_ok-id.was) in
-    let below = c.in-Ok.neighbors.items in
+    let below = c.in_ok-neighbors.neighbors.items in
     let missed = none_is (get g.ID.PartialEq.eq c.loop-node.found.index_of id) (sym c.if-contains_key.ensures) in
-    let more = filled_more g.ID.PartialEq.eq c.loop-node.found c.add_node.new.self node id c.in_ok-ids.ids before.found.0 c.in_ok-add_node.ensures.nodes c.in_ok-add_node.ensures.ids c.in_ok-add_node.ensures.places in
+    let more = filled_more g.ID.PartialEq.eq c.loop-node.found c.add_node.new.self node id c.in_ok-ids.ids before.found.0 c.in_ok-add_node.ensures.nodes c.in_ok-add_node.ensures.ids c.in_ok-add_node.ensures.indices in
     let graph = implements-more g.ID.PartialEq.eq g.F.Fn g.N.FnMut g.NI.IntoIterator g.NI.IntoIter.Iterator c.args.self.now c.loop-node.self c.neighbors.new.self before.graph c.neighbors.ensures.graph in
     record {
       graph = graph;
-      found = of_collected more (λ given walk implemented nodes.
+      found = of_collected more (λ visited walk implemented nodes.
           let known = before.found.1 walk implemented nodes in
           let is = are_nodes walk (whole walk) (map walk.node c.args.start.items) implemented.closed nodes _ (top_reached walk (whole walk) c.pop.new.self.items node known c.in-Some.ensures.items) in
-          let listed = c.in-Ok.ensures.listed walk (rw before.graph.id_fn (before.graph.implemented walk implemented)) is in
+          let listed = c.in_ok-neighbors.ensures.listed walk (rw before.graph.id_fn (before.graph.implemented walk implemented)) is in
           let same_ids = ids_told walk _ (rw (← graph.id_fn) at implemented.ids_match) below c.in_ok-ids.ids.items (rw c.deref.ensures.value at c.in_ok-ids.ensures) (λ b h. implemented.closed (walk.node node) is b (rw listed at h)) in
           collecting_entered walk (whole walk) g.ID.PartialEq.eq _ c.pop.new.self.items node id below _ _ c.in_ok-ids.ids.items _ (length c.loop-node.found.nodes.items)
           (λ a. all_sound _ (walk.graph a)) implemented.closed implemented.apart known c.in-Some.ensures.items is (implemented.ids_match node id is told) missed
-          (whole_listed walk (walk.node node) below listed) same_ids c.in_ok-append.ensures.items given (ap (map (λ v. v.items)) c.in_ok-add_node.ensures.ids ∙ map_push (λ v. v.items) c.loop-node.found.neighbor_ids.items c.in_ok-ids.ids)
-          (ap length before.found.0.nodes ∙ length-map before.found.0.given (λ x. Some x)) c.in_ok-add_node.ensures.places);
+          (whole_listed walk (walk.node node) below listed) same_ids c.in_ok-append.ensures.items visited (ap (map (λ v. v.items)) c.in_ok-add_node.ensures.ids ∙ map_push (λ v. v.items) c.loop-node.found.neighbor_ids.items c.in_ok-ids.ids)
+          (ap length before.found.0.nodes ∙ length-map before.found.0.visited (λ x. Some x)) c.in_ok-add_node.ensures.indices);
     }
 
 pub loop-node-smaller : goal.loop-node-smaller
 loop-node-smaller g c =
     let r = c.loop-node.found.nodes.ok in
     let v = c.append.new.self.ok in
-    left-given c.loop-node.stack.items c.append.new.self.items c.loop-node.found.nodes.items c.add_node.new.self.nodes.items (Some c.in-Some.node)
+    left-yielded c.loop-node.stack.items c.append.new.self.items c.loop-node.found.nodes.items c.add_node.new.self.nodes.items (Some c.in-Some.node)
     c.loop-node.found.nodes.cap c.append.new.self.cap c.in_ok-add_node.ensures.nodes (omega arith) c.loop-node.found.nodes.small (omega arith) c.append.new.self.small
 
-pub returns-in-Err : goal.returns-in-Err
-returns-in-Err g c = record {
-  collected = tt;
-  failed = node_weaker c.in-Err.refused _ _ (λ error failure.
-      let before = c.loop-node.invariant in (
-        c.in-Some.node,
-        fails_before g.ID.PartialEq.eq g.F.Fn g.N.FnMut g.NI.IntoIterator g.NI.IntoIter.Iterator c.args.self.now c.loop-node.self before.graph c.in-Some.node error failure,
-        λ walk implemented nodes. top_reached walk (whole walk) c.pop.new.self.items c.in-Some.node (before.found.1 walk implemented nodes) c.in-Some.ensures.items,
-      )) c.in-Err.ensures.failed;
-}
+pub returns-in_err-neighbors : goal.returns-in_err-neighbors
+returns-in_err-neighbors g c =
+    let p = err_from_is_err_and c.from_residual-in_err-neighbors.result c.from_residual-in_err-neighbors.ensures.1 in
+    rw (p.1, p.2) (record {
+      collected = tt;
+      failed = node_weaker c.in_err-neighbors.field-0.0 _ _ (λ error failure.
+          let before = c.loop-node.invariant in (
+            c.in-Some.node,
+            fails_before g.ID.PartialEq.eq g.F.Fn g.N.FnMut g.NI.IntoIterator g.NI.IntoIter.Iterator c.args.self.now c.loop-node.self before.graph c.in-Some.node error failure,
+            λ walk implemented nodes. top_reached walk (whole walk) c.pop.new.self.items c.in-Some.node (before.found.1 walk implemented nodes) c.in-Some.ensures.items,
+          )) c.in_err-neighbors.ensures.failed;
+    })
 
 pub returns : goal.returns
 returns g c =

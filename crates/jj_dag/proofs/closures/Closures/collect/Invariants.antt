@@ -10,7 +10,7 @@ invariant-loop-node g l = record {
   graph : StillImplements g.ID.PartialEq.eq g.F.Fn g.N.FnMut g.NI.IntoIterator g.NI.IntoIter.Iterator l.initial.self l.self;
   found : (filled : IsFilled g.ID.PartialEq.eq l.found)
       × InModels g.ID.PartialEq.eq g.F.Fn g.N.FnMut g.NI.IntoIterator g.NI.IntoIter.Iterator l.initial.self l.fn.start.items (λ walk nodes.
-      IsCollecting walk (whole walk) nodes (get g.ID.PartialEq.eq l.found.index_of) l.stack.items filled.given (map (λ v. v.items) l.found.neighbor_ids.items));
+      IsCollecting walk (whole walk) nodes (get g.ID.PartialEq.eq l.found.index_of) l.stack.items filled.visited (map (λ v. v.items) l.found.neighbor_ids.items));
 }
 
 abbrev pub decreases-loop-node : goal.decreases-loop-node

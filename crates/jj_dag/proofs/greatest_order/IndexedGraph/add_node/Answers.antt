@@ -7,5 +7,5 @@ returns-clause-nodes g c = search rules
 pub returns-clause-ids : goal.returns-clause-ids
 returns-clause-ids g c = search rules
 
-pub returns-clause-places : goal.returns-clause-places
-returns-clause-places g c = search rules
+pub returns-clause-indices : goal.returns-clause-indices
+returns-clause-indices g c = search rules

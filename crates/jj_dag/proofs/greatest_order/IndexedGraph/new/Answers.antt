@@ -1,5 +1,5 @@
 use Rattle.std.proofs.Common.{refl}
 use Rattle.jj_dag.proofs.greatest_order.IndexedGraph.new.Goals as goal
 
-pub returns-clause-places : goal.returns-clause-places
-returns-clause-places g c = λ i. rw c.new-3.ensures.empty refl
+pub returns-clause-indices : goal.returns-clause-indices
+returns-clause-indices g c = λ i. rw c.new-3.ensures.empty refl
