@@ -12,7 +12,7 @@ use Rattle.jj_walks.specs.declared.candidates.Candidates.{Candidates}
 use Rattle.jj_walks.specs.Candidates.{count_of, has_id, is_listed}
 use Rattle.jj_walks.specs.Branches.{AreCounts, Climbs, IsFirstBranch, IsUntaken, KeepsBranch, TakesHead, Unblocks, has_child}
 use Rattle.jj_walks.specs.ListsByKey.{items_of}
-use Rattle.jj_walks.specs.Grouped.{AreReadChildFirst, Entry, Yielded, History, IsWay, Prioritized, Reaches, Read, first_prioritized, yielded_nodes, has_edge, pending_nodes, pending_at, is_required, leads_to, read_nodes}
+use Rattle.jj_walks.specs.Grouped.{AreReadChildFirst, Entry, Yielded, History, IsIdWalkOfLength, Prioritized, ReachesId, Read, first_prioritized, yielded_nodes, has_edge, pending_nodes, pending_at, is_required, leads_to, read_nodes}
 use Rattle.jj_walks.specs.PendingNodes.{KeepsHistory}
 use Rattle.jj_walks.proofs.CandidateLists.{and_left, and_right}
 use Rattle.jj_walks.proofs.Histories.{cons-cases, cons-first, cons-later}
@@ -28,11 +28,11 @@ abbrev one-if : Bool → ℕ
 one-if b = cond b 1 0
 
 module _ {ID : Type 0} {eq : ID → ID → Bool} (laws : IsEquivalence eq) where
-  way-more : (edge more : ID → ID → Bool) → ((i j : ID) → edge i j ≡ true → more i j ≡ true) → (from to : ID) (steps : ℕ) → IsWay eq edge from to steps → IsWay eq more from to steps
+  way-more : (edge more : ID → ID → Bool) → ((i j : ID) → edge i j ≡ true → more i j ≡ true) → (from to : ID) (steps : ℕ) → IsIdWalkOfLength eq edge from to steps → IsIdWalkOfLength eq more from to steps
   way-more edge more grows from to zero w = w
   way-more edge more grows from to (suc steps) w = (w.0, grows from w.0 w.1, way-more edge more grows w.0 to steps w.2)
 
-  pub reaches-more : (edge more : ID → ID → Bool) → ((i j : ID) → edge i j ≡ true → more i j ≡ true) → (from to : ID) → Reaches eq edge from to → Reaches eq more from to
+  pub reaches-more : (edge more : ID → ID → Bool) → ((i j : ID) → edge i j ≡ true → more i j ≡ true) → (from to : ID) → ReachesId eq edge from to → ReachesId eq more from to
   reaches-more edge more grows from to r = (r.0, way-more edge more grows from to r.0 r.1)
 
   has-last : (ids : List ID) (x i : ID) → has_id eq (ids ++ x ∷ []) i ≡ (has_id eq ids i || (eq x i || false))
@@ -49,10 +49,10 @@ module _ {ID : Type 0} {eq : ID → ID → Bool} (laws : IsEquivalence eq) where
       go rest true is = refl
       go rest false is = let none : one-if (leads_to eq j x) ≡ 0 = ap one-if is in rest (omega (arith, whole, none))
 
-  module _ (edge : ID → ID → Bool) (wanted : ID) where
+  module _ (edge : ID → ID → Bool) (required : ID) where
     -- the last candidate is blocked
-    pub climbs-blocked : (rest blocked : List ID) (x : ID) (lists : ID → ID → Bool) → ((j : ID) → eq x j ≡ true → (i : ID) × (edge i j ≡ true)) → Climbs eq edge wanted (rest ++ x ∷ []) blocked lists
-        → Climbs eq edge wanted rest (blocked ++ x ∷ []) lists
+    pub climbs-blocked : (rest blocked : List ID) (x : ID) (lists : ID → ID → Bool) → ((j : ID) → eq x j ≡ true → (i : ID) × (edge i j ≡ true)) → Climbs eq edge required (rest ++ x ∷ []) blocked lists
+        → Climbs eq edge required rest (blocked ++ x ∷ []) lists
     climbs-blocked rest blocked x lists child k = record {
       replaced = k.replaced;
       alike = k.alike;
@@ -61,7 +61,7 @@ module _ {ID : Type 0} {eq : ID → ID → Bool} (laws : IsEquivalence eq) where
           (or_cases (has_id eq blocked j) (eq x j || false) (sym (has-last blocked x j) ∙ h));
       sound = k.sound;
       whole = λ j i e. ap (λ b. lists j i || (b || k.replaced i)) (moved i) ∙ k.whole j i e;
-      wanted_is = ap (λ b. b || k.replaced wanted) (moved wanted) ∙ k.wanted_is;
+      required_is = ap (λ b. b || k.replaced required) (moved required) ∙ k.required_is;
       next = λ j g. let n = k.next j g in (n.0, n.1, ap (λ b. b || k.replaced n.0) (moved n.0) ∙ n.2);
     }
       where
@@ -77,7 +77,7 @@ module _ {ID : Type 0} {eq : ID → ID → Bool} (laws : IsEquivalence eq) where
 
     -- the last blocked id is replaced by its children
     climbs-replaced : (free blocked : List ID) (parent : ID) (lists more : ID → ID → Bool) → ((i : ID) → has_id eq free i ≡ lists parent i) → ((j i : ID) → more j i ≡ (not (eq parent j) && lists j i))
-        → ((j i : ID) → eq parent j ≡ true → lists j i ≡ lists parent i) → Climbs eq edge wanted [] (blocked ++ parent ∷ []) lists → Climbs eq edge wanted free blocked more
+        → ((j i : ID) → eq parent j ≡ true → lists j i ≡ lists parent i) → Climbs eq edge required [] (blocked ++ parent ∷ []) lists → Climbs eq edge required free blocked more
     climbs-replaced free blocked parent lists more ids left same k = record {
       replaced = λ i. k.replaced i || eq parent i;
       alike = λ i j e. ap (λ b. b || eq parent i) (k.alike i j e) ∙ ap (λ b. k.replaced j || b) (congr-right laws i j parent e);
@@ -86,7 +86,7 @@ module _ {ID : Type 0} {eq : ID → ID → Bool} (laws : IsEquivalence eq) where
       has_child = λ j h. k.has_child j (has-last blocked parent j ∙ or_left (has_id eq blocked j) (eq parent j || false) h);
       sound = λ j i l. k.sound j i (and_right (not (eq parent j)) (lists j i) (sym (left j i) ∙ l));
       whole = λ j i e. parts j i e (eq parent j) refl;
-      wanted_is = kept wanted k.wanted_is;
+      required_is = kept required k.required_is;
       next = λ j g. ⊎_elim (λ r. let n = k.next j r in (n.0, n.1, kept n.0 n.2))
           (λ e. let c = k.has_child j (has-last blocked parent j ∙ or_right (has_id eq blocked j) (eq parent j || false) (or_left (eq parent j) false e)) in (c.0, c.1, opened j c.0 c.1 e))
           (or_cases (k.replaced j) (eq parent j) g);
@@ -95,7 +95,7 @@ module _ {ID : Type 0} {eq : ID → ID → Bool} (laws : IsEquivalence eq) where
         was : (i : ID) → (has_id eq blocked i || (eq parent i || false)) ≡ true → is_listed eq [] (blocked ++ parent ∷ []) i ≡ true
         was i e = has-last blocked parent i ∙ e
 
-        up : (i : ID) → edge i parent ≡ true → Reaches eq edge i wanted
+        up : (i : ID) → edge i parent ≡ true → ReachesId eq edge i required
         up i e = let above = k.reaches parent (was parent (or_right (has_id eq blocked parent) (eq parent parent || false) (or_left (eq parent parent) false (laws.refl parent)))) in (suc above.0, (parent, e, above.1))
 
         still : (f b e r : Bool) → ((b || (e || false)) || r) ≡ true → ((f || b) || (r || e)) ≡ true
@@ -119,15 +119,15 @@ module _ {ID : Type 0} {eq : ID → ID → Bool} (laws : IsEquivalence eq) where
             (λ n. or_right (more j i) (is_listed eq free blocked i || (k.replaced i || eq parent i)) (kept i n)) (or_cases (lists j i) (is_listed eq [] (blocked ++ parent ∷ []) i || k.replaced i) (k.whole j i e))
 
     -- the first head is the only candidate
-    climbs-head : (head : ID) (lists : ID → ID → Bool) → eq head wanted ≡ true → ((j i : ID) → lists j i ≡ edge i j) → Climbs eq edge wanted (head ∷ []) [] lists
+    climbs-head : (head : ID) (lists : ID → ID → Bool) → eq head required ≡ true → ((j i : ID) → lists j i ≡ edge i j) → Climbs eq edge required (head ∷ []) [] lists
     climbs-head head lists e children = record {
       replaced = λ _. false;
       alike = λ _ _ _. refl;
-      reaches = λ i l. (0, sym (laws.congr head i wanted (one (eq head i) l)) ∙ e);
+      reaches = λ i l. (0, sym (laws.congr head i required (one (eq head i) l)) ∙ e);
       has_child = λ j h. no-false h;
       sound = λ j i l. sym (children j i) ∙ l;
       whole = λ j i l. or_left (lists j i) (is_listed eq (head ∷ []) [] i || false) (children j i ∙ l);
-      wanted_is = ap (λ b. ((b || false) || false) || false) e;
+      required_is = ap (λ b. ((b || false) || false) || false) e;
       next = λ j g. no-false g;
     }
       where
@@ -135,44 +135,44 @@ module _ {ID : Type 0} {eq : ID → ID → Bool} (laws : IsEquivalence eq) where
         one true h = refl
         one false h = h
 
-    module _ (count : ID → Option ℕ) (counts : AreCounts eq edge count wanted) where
-      climbs-none : (lists : ID → ID → Bool) → Climbs eq edge wanted [] [] lists → ⊥
-      climbs-none lists k = counts.founded k.replaced k.alike k.next wanted k.wanted_is
+    module _ (count : ID → Option ℕ) (counts : AreCounts eq edge count required) where
+      climbs-none : (lists : ID → ID → Bool) → Climbs eq edge required [] [] lists → ⊥
+      climbs-none lists k = counts.founded k.replaced k.alike k.next required k.required_is
 
       -- there is always a candidate left
-      pub branch-ended : (s : Candidates ID) → s.ids.items ≡ [] → s.blocked.items ≡ [] → deque_items s.heads ≡ [] → IsFirstBranch eq edge wanted s → ⊥
+      pub branch-ended : (s : Candidates ID) → s.ids.items ≡ [] → s.blocked.items ≡ [] → deque_items s.heads ≡ [] → IsFirstBranch eq edge required s → ⊥
       branch-ended s ids blocked heads (inl (head, rest, e, u)) = let nothing : [] ≡ head ∷ rest = sym heads ∙ u.heads in cc
       branch-ended s ids blocked heads (inr k) = climbs-none (has_child eq s.children) (rw (ids, blocked) at k)
 
-      pub branch-refilled : (s t : Candidates ID) → s.ids.items ≡ [] → Unblocks eq s t ⊎ TakesHead eq s t → IsFirstBranch eq edge wanted s → Climbs eq edge wanted t.ids.items t.blocked.items (has_child eq t.children)
+      pub branch-refilled : (s t : Candidates ID) → s.ids.items ≡ [] → Unblocks eq s t ⊎ TakesHead eq s t → IsFirstBranch eq edge required s → Climbs eq edge required t.ids.items t.blocked.items (has_child eq t.children)
       branch-refilled s t none (inl u) (inl (head, rest, e, w)) = absurd (no-push t.blocked.items u.parent (sym w.blocked ∙ u.blocked))
       branch-refilled s t none (inl u) (inr k) =
-          let old : Climbs eq edge wanted [] (t.blocked.items ++ u.parent ∷ []) (has_child eq s.children) = rw (none, u.blocked) at k in
+          let old : Climbs eq edge required [] (t.blocked.items ++ u.parent ∷ []) (has_child eq s.children) = rw (none, u.blocked) at k in
           climbs-replaced t.ids.items t.blocked.items u.parent (has_child eq s.children) (has_child eq t.children) u.ids u.children
           (λ j i same. ap (λ o. has_id eq (items_of o) i) (sym (lookup_congr eq laws.congr s.children.entries u.parent j same))) old
       branch-refilled s t none (inr u) (inl (head, rest, e, w)) =
           let first : u.head ∷ deque_items t.heads ≡ head ∷ rest = sym u.heads ∙ w.heads in
           let same : u.head ≡ head = cc in
-          rw (u.ids, u.blocked) (climbs-head u.head (has_child eq t.children) (ap (λ x. eq x wanted) same ∙ e) (λ j i. ap (λ m. has_child eq m j i) u.children ∙ w.children j i))
+          rw (u.ids, u.blocked) (climbs-head u.head (has_child eq t.children) (ap (λ x. eq x required) same ∙ e) (λ j i. ap (λ m. has_child eq m j i) u.children ∙ w.children j i))
       branch-refilled s t none (inr u) (inr k) = absurd (climbs-none (has_child eq s.children) (rw (none, u.none) at k))
 
       -- a candidate that reaches the required id is counted
-      pub branch-counted : (s : Candidates ID) (rest : List ID) (x : ID) → s.ids.items ≡ rest ++ x ∷ [] → IsFirstBranch eq edge wanted s → is_some (count x) ≡ true
+      pub branch-counted : (s : Candidates ID) (rest : List ID) (x : ID) → s.ids.items ≡ rest ++ x ∷ [] → IsFirstBranch eq edge required s → is_some (count x) ≡ true
       branch-counted s rest x top (inl (head, others, e, w)) = absurd (no-push rest x (sym w.ids ∙ top))
       branch-counted s rest x top (inr k) = counts.known x (k.reaches x (or_left (has_id eq s.ids.items x) (has_id eq s.blocked.items x)
           (ap (λ l. has_id eq l x) top ∙ has-last rest x x ∙ or_right (has_id eq rest x) (eq x x || false) (or_left (eq x x) false (laws.refl x)))))
 
-    pub branch-candidate : (s : Candidates ID) (rest : List ID) (x : ID) → s.ids.items ≡ rest ++ x ∷ [] → IsFirstBranch eq edge wanted s → Climbs eq edge wanted (rest ++ x ∷ []) s.blocked.items (has_child eq s.children)
+    pub branch-candidate : (s : Candidates ID) (rest : List ID) (x : ID) → s.ids.items ≡ rest ++ x ∷ [] → IsFirstBranch eq edge required s → Climbs eq edge required (rest ++ x ∷ []) s.blocked.items (has_child eq s.children)
     branch-candidate s rest x top (inl (head, others, e, w)) = absurd (no-push rest x (sym w.ids ∙ top))
     branch-candidate s rest x top (inr k) = rw top at k
 
     -- a candidate reaches the required id
-    pub climbs-reaches : (rest blocked : List ID) (x : ID) (lists : ID → ID → Bool) → Climbs eq edge wanted (rest ++ x ∷ []) blocked lists → Reaches eq edge x wanted
+    pub climbs-reaches : (rest blocked : List ID) (x : ID) (lists : ID → ID → Bool) → Climbs eq edge required (rest ++ x ∷ []) blocked lists → ReachesId eq edge x required
     climbs-reaches rest blocked x lists k = k.reaches x (or_left (has_id eq (rest ++ x ∷ []) x) (has_id eq blocked x)
         (has-last rest x x ∙ or_right (has_id eq rest x) (eq x x || false) (or_left (eq x x) false (laws.refl x))))
 
     -- more heads change nothing
-    pub branch-heads : (s t : Candidates ID) (more : List ID) → t.ids.items ≡ s.ids.items → t.blocked ≡ s.blocked → t.children ≡ s.children → deque_items t.heads ≡ deque_items s.heads ++ more → IsFirstBranch eq edge wanted s → IsFirstBranch eq edge wanted t
+    pub branch-heads : (s t : Candidates ID) (more : List ID) → t.ids.items ≡ s.ids.items → t.blocked ≡ s.blocked → t.children ≡ s.children → deque_items t.heads ≡ deque_items s.heads ++ more → IsFirstBranch eq edge required s → IsFirstBranch eq edge required t
     branch-heads s t more ids blocked children heads (inl (head, rest, e, u)) = inl (
       head,
       rest ++ more,
@@ -188,15 +188,15 @@ module _ {ID : Type 0} {eq : ID → ID → Bool} (laws : IsEquivalence eq) where
 
     -- the last candidate has a child, and is blocked
     pub branch-blocked : (s t : Candidates ID) (x : ID) → s.ids.items ≡ t.ids.items ++ x ∷ [] → t.blocked.items ≡ s.blocked.items ++ x ∷ [] → t.children ≡ s.children
-        → ((j : ID) → eq x j ≡ true → (i : ID) × (edge i j ≡ true)) → IsFirstBranch eq edge wanted s → IsFirstBranch eq edge wanted t
+        → ((j : ID) → eq x j ≡ true → (i : ID) × (edge i j ≡ true)) → IsFirstBranch eq edge required s → IsFirstBranch eq edge required t
     branch-blocked s t x ids blocked children child k =
         inr (rw (blocked, children) (climbs-blocked t.ids.items s.blocked.items x (has_child eq s.children) child (branch-candidate s t.ids.items x ids k)))
 
   -- one more node was read
-  pub branch-grown : (edge grown : ID → ID → Bool) (wanted : ID) (s t : Candidates ID) (more : List ID) (from : ID) (leads : ID → Bool)
+  pub branch-grown : (edge grown : ID → ID → Bool) (required : ID) (s t : Candidates ID) (more : List ID) (from : ID) (leads : ID → Bool)
       → ((i j : ID) → grown i j ≡ ((eq from i && leads j) || edge i j)) → ((j i : ID) → has_child eq t.children j i ≡ (has_child eq s.children j i || (leads j && eq from i)))
-      → t.ids ≡ s.ids → t.blocked ≡ s.blocked → deque_items t.heads ≡ deque_items s.heads ++ more → IsFirstBranch eq edge wanted s → IsFirstBranch eq grown wanted t
-  branch-grown edge grown wanted s t more from leads grows children ids blocked heads (inl (head, rest, e, u)) = inl (
+      → t.ids ≡ s.ids → t.blocked ≡ s.blocked → deque_items t.heads ≡ deque_items s.heads ++ more → IsFirstBranch eq edge required s → IsFirstBranch eq grown required t
+  branch-grown edge grown required s t more from leads grows children ids blocked heads (inl (head, rest, e, u)) = inl (
     head,
     rest ++ more,
     e,
@@ -217,10 +217,10 @@ module _ {ID : Type 0} {eq : ID → ID → Bool} (laws : IsEquivalence eq) where
       turn false true false = refl
       turn false false true = refl
       turn false false false = refl
-  branch-grown edge grown wanted s t more from leads grows children ids blocked heads (inr k) = inr (rw (ids, blocked) (record {
+  branch-grown edge grown required s t more from leads grows children ids blocked heads (inr k) = inr (rw (ids, blocked) (record {
     replaced = k.replaced;
     alike = k.alike;
-    reaches = λ i l. let r = k.reaches i l in (r.0, way-more edge grown kept i wanted r.0 r.1);
+    reaches = λ i l. let r = k.reaches i l in (r.0, way-more edge grown kept i required r.0 r.1);
     has_child = λ j h. let c = k.has_child j h in (c.0, kept c.0 j c.1);
     sound = λ j i l. ⊎_elim (λ a. kept i j (k.sound j i a)) (λ a. grows i j ∙ or_left (eq from i && leads j) (edge i j) (and_from (eq from i) (leads j) (and_right (leads j) (eq from i) a) (and_left (leads j) (eq from i) a)))
         (or_cases (has_child eq s.children j i) (leads j && eq from i) (sym (children j i) ∙ l));
@@ -229,7 +229,7 @@ module _ {ID : Type 0} {eq : ID → ID → Bool} (laws : IsEquivalence eq) where
         (λ a. ⊎_elim (λ l. or_left (has_child eq t.children j i) (known i) (children j i ∙ or_left (has_child eq s.children j i) (leads j && eq from i) l)) (λ n. or_right (has_child eq t.children j i) (known i) n)
         (or_cases (has_child eq s.children j i) (known i) (k.whole j i a)))
         (or_cases (eq from i && leads j) (edge i j) (sym (grows i j) ∙ e));
-    wanted_is = k.wanted_is;
+    required_is = k.required_is;
     next = λ j g. let n = k.next j g in (n.0, kept n.0 j n.1, n.2);
   }))
     where
@@ -246,12 +246,12 @@ module _ {N ID : Type 0} {eq : ID → ID → Bool} (laws : IsEquivalence eq) whe
   pending-read (Read e ∷ h) none = ap (λ l. e ∷ l) (pending-read h none)
   pending-read (Yielded e ∷ h) none = cc
 
-  first-wanted : (h : History N ID) (wanted : ID) → yielded_nodes h ≡ [] → first_prioritized h ≡ Some wanted → is_required eq h wanted ≡ true
-  first-wanted [] wanted none first = cc
-  first-wanted (Prioritized i ∷ []) wanted none first = let same : i ≡ wanted = cc in or_left (eq i wanted) false (ap (λ x. eq x wanted) same ∙ laws.refl wanted)
-  first-wanted (Prioritized i ∷ event ∷ h) wanted none first = or_right (eq i wanted) (is_required eq (event ∷ h) wanted) (first-wanted (event ∷ h) wanted none first)
-  first-wanted (Read e ∷ h) wanted none first = or_right (list_any (leads_to eq wanted) e.edges) (is_required eq h wanted) (first-wanted h wanted none first)
-  first-wanted (Yielded e ∷ h) wanted none first = cc
+  first-required : (h : History N ID) (required : ID) → yielded_nodes h ≡ [] → first_prioritized h ≡ Some required → is_required eq h required ≡ true
+  first-required [] required none first = cc
+  first-required (Prioritized i ∷ []) required none first = let same : i ≡ required = cc in or_left (eq i required) false (ap (λ x. eq x required) same ∙ laws.refl required)
+  first-required (Prioritized i ∷ event ∷ h) required none first = or_right (eq i required) (is_required eq (event ∷ h) required) (first-required (event ∷ h) required none first)
+  first-required (Read e ∷ h) required none first = or_right (list_any (leads_to eq required) e.edges) (is_required eq h required) (first-required h required none first)
+  first-required (Yielded e ∷ h) required none first = cc
 
   pub edge-entry : (es : List (Entry N ID)) (i j : ID) → has_edge eq es i j ≡ true → (c : Entry N ID) × Contains es c × (eq c.id i ≡ true) × (list_any (leads_to eq j) c.edges ≡ true)
   edge-entry [] i j e = no-false e
@@ -291,12 +291,12 @@ module _ {N ID : Type 0} {eq : ID → ID → Bool} (laws : IsEquivalence eq) whe
   edge-alike (f ∷ es) x y j e =
       ap (λ b. (b && list_any (leads_to eq j) f.edges) || has_edge eq es x j) (congr-right laws x y f.id e) ∙ ap (λ b. (eq f.id y && list_any (leads_to eq j) f.edges) || b) (edge-alike es x y j e)
 
-  way-alike : (es : List (Entry N ID)) (x y to : ID) (steps : ℕ) → eq x y ≡ true → IsWay eq (has_edge eq es) y to steps → IsWay eq (has_edge eq es) x to steps
+  way-alike : (es : List (Entry N ID)) (x y to : ID) (steps : ℕ) → eq x y ≡ true → IsIdWalkOfLength eq (has_edge eq es) y to steps → IsIdWalkOfLength eq (has_edge eq es) x to steps
   way-alike es x y to zero e w = laws.congr x y to e ∙ w
   way-alike es x y to (suc steps) e w = (w.0, edge-alike es x y w.0 e ∙ w.1, w.2)
 
   -- equal ids reach the same
-  pub reaches-alike : (es : List (Entry N ID)) (x y to : ID) → eq x y ≡ true → Reaches eq (has_edge eq es) y to → Reaches eq (has_edge eq es) x to
+  pub reaches-alike : (es : List (Entry N ID)) (x y to : ID) → eq x y ≡ true → ReachesId eq (has_edge eq es) y to → ReachesId eq (has_edge eq es) x to
   reaches-alike es x y to e r = (r.0, way-alike es x y to r.0 e r.1)
 
   -- nodes read in topological order have no cycle
@@ -316,9 +316,9 @@ module _ {N ID : Type 0} {eq : ID → ID → Bool} (laws : IsEquivalence eq) whe
           (c.0, ⊎_elim (λ same. no-false (sym (first f at) ∙ ap (λ x. list_any (leads_to eq f.id) x.edges) same ∙ c.2)) (λ later. later) (cons-cases es e c.0 c.1), c.2, c.3)
 
   -- the stored state counts the edges of the nodes that were read
-  pub counts-are : (h : History N ID) (node_at : ID → Option (N × List (GraphEdge ID))) (count : ID → Option ℕ) (ids heads : List ID) (wanted : ID) → ((x y : ID) → eq x y ≡ true → count x ≡ count y)
-      → yielded_nodes h ≡ [] → AreReadChildFirst eq (read_nodes h) → first_prioritized h ≡ Some wanted → KeepsHistory eq h node_at count ids heads → AreCounts eq (has_edge eq (read_nodes h)) count wanted
-  counts-are h node_at count ids heads wanted alike none order first k = record {
+  pub counts-are : (h : History N ID) (node_at : ID → Option (N × List (GraphEdge ID))) (count : ID → Option ℕ) (ids heads : List ID) (required : ID) → ((x y : ID) → eq x y ≡ true → count x ≡ count y)
+      → yielded_nodes h ≡ [] → AreReadChildFirst eq (read_nodes h) → first_prioritized h ≡ Some required → KeepsHistory eq h node_at count ids heads → AreCounts eq (has_edge eq (read_nodes h)) count required
+  counts-are h node_at count ids heads required alike none order first k = record {
     known = λ i r. counted i r.0 r.1;
     child = λ j pos. let more : 0 < count_of (count j) = positive-count (count j) pos in let edges = k.counts j in
         edge-counted j (read_nodes h) (subst (λ (l : List (Entry N ID)). 0 < sum_by (λ e. count_by (leads_to eq j) e.edges) l) all (omega (arith, more, edges)));
@@ -328,8 +328,8 @@ module _ {N ID : Type 0} {eq : ID → ID → Bool} (laws : IsEquivalence eq) whe
       all : pending_nodes eq h ≡ read_nodes h
       all = pending-read h none
 
-      counted : (i : ID) (steps : ℕ) → IsWay eq (has_edge eq (read_nodes h)) i wanted steps → is_some (count i) ≡ true
-      counted i zero e = ap is_some (alike i wanted e) ∙ k.known wanted ∙ or_left (is_required eq h wanted) (is_some (pending_at eq h wanted)) (first-wanted h wanted none first)
+      counted : (i : ID) (steps : ℕ) → IsIdWalkOfLength eq (has_edge eq (read_nodes h)) i required steps → is_some (count i) ≡ true
+      counted i zero e = ap is_some (alike i required e) ∙ k.known required ∙ or_left (is_required eq h required) (is_some (pending_at eq h required)) (first-required h required none first)
       counted i (suc steps) (j, e, way) = k.known i ∙ or_right (is_required eq h i) (is_some (pending_at eq h i)) (ap (λ (l : List (Entry N ID)). is_some (find (λ e. eq e.id i) l)) all ∙ edge-found (read_nodes h) i j e)
 
       above : (is_in : ID → Bool) → ((i j : ID) → eq i j ≡ true → is_in i ≡ is_in j) → ((j : ID) → is_in j ≡ true → (i : ID) × (has_edge eq (read_nodes h) i j ≡ true) × (is_in i ≡ true))
@@ -344,8 +344,8 @@ module _ {N ID : Type 0} {eq : ID → ID → Bool} (laws : IsEquivalence eq) whe
       → KeepsBranch eq h s → KeepsBranch eq (Prioritized i ∷ h) t
   branch-prioritized [] s t i copy same ids blocked children heads k = record {
     begun = λ e. cc;
-    first = λ none order wanted first.
-        let w : i ≡ wanted = cc in
+    first = λ none order required first.
+        let w : i ≡ required = cc in
         let u = k.begun refl in
         inl (
           copy,
@@ -361,7 +361,7 @@ module _ {N ID : Type 0} {eq : ID → ID → Bool} (laws : IsEquivalence eq) whe
   }
   branch-prioritized (event ∷ h) s t i copy same ids blocked children heads k = record {
     begun = λ e. cc;
-    first = λ none order wanted first. branch-heads laws (has_edge eq (read_nodes (event ∷ h))) wanted s t (copy ∷ []) (ap (λ v. v.items) ids) blocked children heads (k.first none order wanted first);
+    first = λ none order required first. branch-heads laws (has_edge eq (read_nodes (event ∷ h))) required s t (copy ∷ []) (ap (λ v. v.items) ids) blocked children heads (k.first none order required first);
   }
 
   -- a node was read
@@ -369,13 +369,13 @@ module _ {N ID : Type 0} {eq : ID → ID → Bool} (laws : IsEquivalence eq) whe
       → ((j i : ID) → has_child eq t.children j i ≡ (has_child eq s.children j i || (list_any (leads_to eq j) e.edges && eq e.id i))) → KeepsBranch eq h s → KeepsBranch eq (Read e ∷ h) t
   branch-read h s t e more ids blocked heads children k = record {
     begun = λ e. cc;
-    first = λ none order wanted first. branch-grown laws (has_edge eq (read_nodes h)) (has_edge eq (read_nodes (Read e ∷ h))) wanted s t more e.id (λ j. list_any (leads_to eq j) e.edges)
-        (λ i j. refl) children ids blocked heads (k.first none order.1 wanted first);
+    first = λ none order required first. branch-grown laws (has_edge eq (read_nodes h)) (has_edge eq (read_nodes (Read e ∷ h))) required s t more e.id (λ j. list_any (leads_to eq j) e.edges)
+        (λ i j. refl) children ids blocked heads (k.first none order.1 required first);
   }
 
   -- a node was yielded
   pub branch-gave : (h : History N ID) (t : Candidates ID) (e : Entry N ID) → KeepsBranch eq (Yielded e ∷ h) t
-  branch-gave h t e = record { begun = λ e. cc; first = λ none order wanted first. cc }
+  branch-gave h t e = record { begun = λ e. cc; first = λ none order required first. cc }
 
 -- a list with a candidate is not the initial one
 pub untaken-none : {ID A : Type 0} {eq : ID → ID → Bool} {edge : ID → ID → Bool} {listed : List ID} (s : Candidates ID) (rest : List ID) (x : ID) → s.ids.items ≡ rest ++ x ∷ [] → IsUntaken eq edge listed s → A

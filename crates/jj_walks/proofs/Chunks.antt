@@ -5,11 +5,11 @@ use Rattle.std.specs.Result.{result_ok}
 use Rattle.std.proofs.lemmas.List.{length-map}
 use Rattle.jj_walks.specs.Chunks.{IsChunkOfMany, IsNextChunk, IsChunkOfAnyGraph}
 use Rattle.jj_dag.specs.Collecting.{IsCollecting}
-use Rattle.jj_dag.specs.FallibleGraphs.{FallibleGraph, sound}
+use Rattle.jj_dag.specs.FallibleGraphs.{FallibleGraph, ok_graph}
 use Rattle.jj_dag.specs.Graph.{Graph, HasEdge, IsWalkOfLength, Reaches, StrictlyReaches, ReachedFrom, ReachesCycle, IsAcyclicFrom, IsTopologicalOrder}
 use Rattle.jj_walks.specs.LookingAhead.{HasLooked, copies}
-use Rattle.jj_dag.specs.Walk.{Model, AreNodes}
-use Rattle.jj_dag.proofs.Collecting.{are_nodes, at_place}
+use Rattle.jj_dag.specs.Walk.{GraphModel, AreNodes}
+use Rattle.jj_dag.proofs.Collecting.{are_nodes, at_index}
 use Rattle.jj_walks.proofs.LookingAhead.{copies_short}
 use Rattle.jj_dag.proofs.Reaching.{Contains-reached, Reaches-trans, edge_then_Reaches}
 use Rattle.jj_dag.proofs.ReadyOrders.{twice, tail_distinct, here, later, at_split}
@@ -91,15 +91,15 @@ IsWalkOfLength-more g h more (suc n) a b (c, e, p) = (c, more a c e, IsWalkOfLen
 
 -- ---- the graph of the nodes that were explored
 
-module _ {T ID K : Type 0} (w : Model T ID) (items : FallibleGraph K) (starts : List ℕ) (find : ID → Option ℕ) (left given : List T) (ids : List (List ID))
-    (looked : HasLooked w items starts find left given ids) (closed : (a : ℕ) → w.is_node a ≡ true → AreNodes w (w.graph a)) (nodes : AreNodes w starts) where
+module _ {T ID K : Type 0} (w : GraphModel T ID) (items : FallibleGraph K) (starts : List ℕ) (find : ID → Option ℕ) (left visited : List T) (ids : List (List ID))
+    (looked : HasLooked w items starts find left visited ids) (closed : (a : ℕ) → w.is_node a ≡ true → AreNodes w (w.graph a)) (nodes : AreNodes w starts) where
   abbrev pub explored : List ℕ
-  explored = map w.node given
+  explored = map w.node visited
 
   abbrev pub inner : Graph
   inner a = filter (has explored) (w.graph a)
 
-  abbrev pub walk_inner : Model T ID
+  abbrev pub walk_inner : GraphModel T ID
   walk_inner = record { graph = inner; is_node = w.is_node; node = w.node; id = w.id }
 
   abbrev pub inner_items : FallibleGraph K
@@ -118,10 +118,10 @@ module _ {T ID K : Type 0} (w : Model T ID) (items : FallibleGraph K) (starts : 
   keeps_edge a b h e = has_filter (has explored) (w.graph a) b e (has-from_Contains explored b h)
 
   is_node : (a : ℕ) → Contains explored a → w.is_node a ≡ true
-  is_node a h = are_nodes w items starts closed nodes a (looked.collecting.given_reached a h)
+  is_node a h = are_nodes w items starts closed nodes a (looked.collecting.visited_reached a h)
 
-  pub inner_sound : (a : ℕ) → inner a ≡ sound inner_items a
-  inner_sound a = oks (inner a)
+  pub inner_ok_graph : (a : ℕ) → inner a ≡ ok_graph inner_items a
+  inner_ok_graph a = oks (inner a)
     where
       oks : (ns : List ℕ) → ns ≡ filter_map result_ok (map {B = Result ℕ K} (λ b. Ok b) ns)
       oks [] = refl
@@ -141,7 +141,7 @@ module _ {T ID K : Type 0} (w : Model T ID) (items : FallibleGraph K) (starts : 
         | true ↦ λ t. absurd (out (Contains-from_has explored (w.id i) t))
         | false ↦ λ t. refl
       ] refl
-      of (Some k) at = sym (has-from_Contains explored (w.id i) (at_place explored (w.id i) k at.0 at.1))
+      of (Some k) at = sym (has-from_Contains explored (w.id i) (at_index explored (w.id i) k at.0 at.1))
 
   ids_kept : (is : List ID) → ((i : ID) → Contains is i → w.is_node (w.id i) ≡ true) → map w.id (filter (λ i. is_some (find i)) is) ≡ filter (has explored) (map w.id is)
   ids_kept [] h = refl
@@ -172,11 +172,11 @@ module _ {T ID K : Type 0} (w : Model T ID) (items : FallibleGraph K) (starts : 
       in_map (j ∷ js) i (suc k, lt, q) = later (w.id j) (map w.id js) (w.id i) (in_map js i (k, omega arith, q))
 
   -- the explored nodes as starts of a complete collection
-  pub inner_collected : IsCollecting walk_inner inner_items explored find [] given inner_ids
+  pub inner_collected : IsCollecting walk_inner inner_items explored find [] visited inner_ids
   inner_collected = record {
-    waiting_reached = λ a (k, lt, e). absurd (omega arith);
-    given_reached = λ a h. (a, h, (0, refl));
-    starts_met = λ a h. inl h;
+    pending_reached = λ a (k, lt, e). absurd (omega arith);
+    visited_reached = λ a h. (a, h, (0, refl));
+    starts_visited = λ a h. inl h;
     closed = λ a b h e. inl (inner_closed a b e);
     injective = looked.collecting.injective;
     finds = looked.collecting.finds;
@@ -195,13 +195,13 @@ module _ {T ID K : Type 0} (w : Model T ID) (items : FallibleGraph K) (starts : 
   -- nodes reachable among the explored ones are reachable from the starts
   pub inner_reached : (a : ℕ) → ReachedFrom inner explored a → ReachedFrom w.graph starts a
   inner_reached a (s, at, (n, p)) =
-      let from = looked.collecting.given_reached s at in
+      let from = looked.collecting.visited_reached s at in
       (from.0, from.1, Reaches-trans w.graph from.0 s a from.2.0 from.2.1 (n, IsWalkOfLength-more inner w.graph inner_edge n s a p))
 
   pub inner_cycle : ReachesCycle inner explored → ReachesCycle w.graph starts
   inner_cycle (a, (reached, (n, p))) = (a, (inner_reached a reached, (n, IsWalkOfLength-more inner w.graph inner_edge (suc n) a a p)))
 
-  module _ (few : length left ≤ 1) (begun : given ≡ [] → left ≡ []) (order : List ℕ) (first : IsTopologicalOrder inner explored order) where
+  module _ (few : length left ≤ 1) (begun : visited ≡ [] → left ≡ []) (order : List ℕ) (first : IsTopologicalOrder inner explored order) where
     abbrev rest : List ℕ
     rest = map w.node left
 
@@ -239,13 +239,13 @@ module _ {T ID K : Type 0} (w : Model T ID) (items : FallibleGraph K) (starts : 
         let out : Contains explored c.0 → ⊥ = λ k. nothing c.0 (behind z.0 [] z.1 c.0 z.2 k c.1) in
         (z.1, c.0, in_z, c.1, ⊎_elim (λ l. absurd (out l)) (λ k. k) (goes z.1 c.0 in_z c.1), out)
       where
-        no_given : (l : List T) → ((a : ℕ) → Contains (map w.node l) a → ⊥) → l ≡ []
-        no_given [] none = refl
-        no_given (x ∷ l) none = absurd (none (w.node x) (0, omega arith, refl))
+        no_visited : (l : List T) → ((a : ℕ) → Contains (map w.node l) a → ⊥) → l ≡ []
+        no_visited [] none = refl
+        no_visited (x ∷ l) none = absurd (none (w.node x) (0, omega arith, refl))
 
         no_order : order ≡ [] → ⊥
         no_order none =
-            let empty : given ≡ [] = no_given given (λ a k. nothing a (subst (λ (l : List ℕ). Contains l a) none (in_order a k))) in
+            let empty : visited ≡ [] = no_visited visited (λ a k. nothing a (subst (λ (l : List ℕ). Contains l a) none (in_order a k))) in
             nothing r (subst (λ (l : List T). Contains (map w.node l) r) (begun empty) h)
 
     -- each explored node leads down to the pending one
@@ -269,7 +269,7 @@ module _ {T ID K : Type 0} (w : Model T ID) (items : FallibleGraph K) (starts : 
     pub left_apart : IsAcyclicFrom w.graph starts → (a : ℕ) → Contains order a → ReachedFrom w.graph rest a → ⊥
     left_apart acyclic a at (r, h, (n, p)) =
         let s = leads r h order [] refl a at in
-        acyclic a (looked.collecting.given_reached a (from_order a at)) (round s.0 s.1)
+        acyclic a (looked.collecting.visited_reached a (from_order a at)) (round s.0 s.1)
       where
         round : (m : ℕ) → IsWalkOfLength w.graph a r (suc m) → StrictlyReaches w.graph a a
         round m (c, e, q) = edge_then_Reaches w.graph a c a e (Reaches-trans w.graph c r a m q (n, p))
@@ -283,7 +283,7 @@ module _ {T ID K : Type 0} (w : Model T ID) (items : FallibleGraph K) (starts : 
           let two = looked.twice a z.0 s (λ k. true≢false (sym (has-from_Contains explored a k) ∙ t)) z.2 edge in
           let one : copies w.node left a ≤ length left = copies_short w.node left a in
           absurd (omega arith)
-    ] refl) (looked.collecting.starts_met a s)
+    ] refl) (looked.collecting.starts_visited a s)
 
     down : (n b a : ℕ) → Contains explored b → IsWalkOfLength w.graph b a n → Contains order a ⊎ ReachedFrom w.graph rest a
     down zero b a h p = inl (subst (λ (m : ℕ). Contains order m) p (in_order b h))
@@ -306,9 +306,9 @@ module _ {T ID K : Type 0} (w : Model T ID) (items : FallibleGraph K) (starts : 
         reached = λ a. (
           λ (s, at, (n, p)). down n s a (starts_in s at) p,
           λ h. elim h [
-            | inl l ↦ looked.collecting.given_reached a (from_order a l)
+            | inl l ↦ looked.collecting.visited_reached a (from_order a l)
             | inr (r, k, (n, p)) ↦
-                let from = looked.collecting.waiting_reached r k in
+                let from = looked.collecting.pending_reached r k in
                 (from.0, from.1, Reaches-trans w.graph from.0 r a from.2.0 from.2.1 (n, p))
           ],
         );
@@ -323,7 +323,7 @@ module _ {T ID K : Type 0} (w : Model T ID) (items : FallibleGraph K) (starts : 
     many_stretch = record {
       once = first.once;
       has_starts = λ a s. in_order a (starts_in a s);
-      reached = λ a h. ⊎_elim (λ l. looked.collecting.given_reached a (from_order a l)) (λ r. looked.collecting.waiting_reached a r) h;
+      reached = λ a h. ⊎_elim (λ l. looked.collecting.visited_reached a (from_order a l)) (λ r. looked.collecting.pending_reached a r) h;
       forward = λ front back a b e edge.
           ⊎_elim (λ l. inl (behind front back a b e l edge)) (λ r. inr r)
           (goes a b (from_order a (subst (λ (l : List ℕ). Contains l a) (sym e) (at_split front a back))) edge);

@@ -1,14 +1,13 @@
 -- The graph of the item lists that a run received, and searches in all graphs that agree with it.
 use Rattle.std.proofs.Common.{◌≡◌, ◌⊎◌, inl, inr, ℕ, zero, suc, Bool, true, false, true≢false, cond, Result, Ok, Err, List, [], ◌∷◌, ◌++◌, map, reverse, refl, sym, ◌∙◌, ap, subst, arith, ◌==◌, ⊎_elim}
 use Rattle.std.specs.List.{Contains}
-use Rattle.std.specs.Bool.{Decides}
 use Rattle.std.proofs.lemmas.Bool.Decides.{Decides-eqb}
 use Rattle.std.proofs.lemmas.List.{map-append, reverse-append}
 use Rattle.std.proofs.lemmas.List.Elements.{Contains-append_left, Contains-append_right, Contains-push}
-use Rattle.jj_dag.specs.FallibleGraphs.{FallibleGraph, IsWalkingItems, ok_items}
-use Rattle.jj_dag.specs.Walk.{AreNodes, Model}
+use Rattle.jj_dag.specs.FallibleGraphs.{IsWalkingItems, ok_items}
+use Rattle.jj_dag.specs.Walk.{AreNodes, GraphModel}
 use Rattle.jj_dag.proofs.Walking.{has, has-from_Contains}
-use Rattle.jj_dag.proofs.FailingWalks.{Contains-sound, item_is_node, item_tested, walking_item_entered, walking_item_failed, walking_item_passed, walking_items_start}
+use Rattle.jj_dag.proofs.FailingWalks.{Contains-ok_items, item_is_node, item_tested, walking_item_entered, walking_item_failed, walking_item_passed, walking_items_start}
 use Rattle.jj_walks.specs.Expansions.{Expansion, HasItemsOf, expansions_graph, item_of}
 use Rattle.jj_walks.specs.DfsOkSteps.{IsWalkingExpansions}
 
@@ -68,60 +67,60 @@ module _ {T E : Type 0} (number : T → ℕ) where
 
 -- ---- the search
 
-module _ {T ID E : Type 0} (g : Model T ID) where
+module _ {T ID E : Type 0} (g : GraphModel T ID) where
   abbrev pub numbers : List (Result T E) → List (Result ℕ E)
   numbers xs = map (item_of g.node) xs
 
   on_top : (work rest : List (Result T E)) (x : Result T E) → work ≡ rest ++ x ∷ [] → numbers work ≡ numbers rest ++ item_of g.node x ∷ []
   on_top work rest x e = ap numbers e ∙ map-append (item_of g.node) rest (x ∷ [])
 
-  pub answers_start : {test : ID → Bool} (starts : List (Result T E)) → AreNodes g (ok_items (numbers starts)) → ((i : ID) → test i ≡ false) → IsWalkingExpansions g test [] starts starts []
-  answers_start starts nodes nothing = record {
-    has_answers = λ x h. absurd (omega (arith, h.1));
+  pub expansions_start : {test : ID → Bool} (starts : List (Result T E)) → AreNodes g (ok_items (numbers starts)) → ((i : ID) → test i ≡ false) → IsWalkingExpansions g test [] starts starts []
+  expansions_start starts nodes nothing = record {
+    has_items = λ x h. absurd (omega (arith, h.1));
     walking = λ graph h. walking_items_start g graph (numbers starts) nodes nothing;
   }
 
-  pub on_top_is_node : {test : ID → Bool} {expansions : List (Expansion T E)} {starts work given : List (Result T E)} (rest : List (Result T E)) (x : T)
-      → IsWalkingExpansions g test expansions starts work given → work ≡ rest ++ Ok x ∷ [] → g.is_node (g.node x) ≡ true
-  on_top_is_node {expansions = expansions} {work = work} rest x k e = item_is_node g (expansions_graph g.node expansions) (numbers rest) (g.node x) (k.walking _ k.has_answers) (on_top work rest (Ok x) e)
+  pub on_top_is_node : {test : ID → Bool} {expansions : List (Expansion T E)} {starts work yielded : List (Result T E)} (rest : List (Result T E)) (x : T)
+      → IsWalkingExpansions g test expansions starts work yielded → work ≡ rest ++ Ok x ∷ [] → g.is_node (g.node x) ≡ true
+  on_top_is_node {expansions = expansions} {work = work} rest x k e = item_is_node g (expansions_graph g.node expansions) (numbers rest) (g.node x) (k.walking _ k.has_items) (on_top work rest (Ok x) e)
 
-  pub answers_passed : {test : ID → Bool} {expansions : List (Expansion T E)} {starts work given : List (Result T E)} (rest : List (Result T E)) (x : T) (i : ID)
-      → IsWalkingExpansions g test expansions starts work given → work ≡ rest ++ Ok x ∷ [] → g.id i ≡ g.node x → true ≡ test i → IsWalkingExpansions g test expansions starts rest given
-  answers_passed {work = work} rest x i k e same is = record {
-    has_answers = k.has_answers;
+  pub expansions_passed : {test : ID → Bool} {expansions : List (Expansion T E)} {starts work yielded : List (Result T E)} (rest : List (Result T E)) (x : T) (i : ID)
+      → IsWalkingExpansions g test expansions starts work yielded → work ≡ rest ++ Ok x ∷ [] → g.id i ≡ g.node x → true ≡ test i → IsWalkingExpansions g test expansions starts rest yielded
+  expansions_passed {work = work} rest x i k e same is = record {
+    has_items = k.has_items;
     walking = λ graph h. walking_item_passed g graph (numbers rest) (g.node x) i (k.walking graph h) (on_top work rest (Ok x) e) same is;
   }
 
-  pub answers_failed : {test : ID → Bool} {expansions : List (Expansion T E)} {starts work given : List (Result T E)} (rest : List (Result T E)) (error : E)
-      → IsWalkingExpansions g test expansions starts work given → work ≡ rest ++ Err error ∷ [] → IsWalkingExpansions g test expansions starts rest (given ++ Err error ∷ [])
-  answers_failed {test} {starts = starts} {work = work} {given = given} rest error k e = record {
-    has_answers = k.has_answers;
-    walking = λ graph h. subst (λ (l : List (Result ℕ E)). IsWalkingItems g graph (numbers starts) test (numbers rest) l) (sym (map-append (item_of g.node) given (Err error ∷ [])))
+  pub expansions_failed : {test : ID → Bool} {expansions : List (Expansion T E)} {starts work yielded : List (Result T E)} (rest : List (Result T E)) (error : E)
+      → IsWalkingExpansions g test expansions starts work yielded → work ≡ rest ++ Err error ∷ [] → IsWalkingExpansions g test expansions starts rest (yielded ++ Err error ∷ [])
+  expansions_failed {test} {starts = starts} {work = work} {yielded = yielded} rest error k e = record {
+    has_items = k.has_items;
+    walking = λ graph h. subst (λ (l : List (Result ℕ E)). IsWalkingItems g graph (numbers starts) test (numbers rest) l) (sym (map-append (item_of g.node) yielded (Err error ∷ [])))
         (walking_item_failed g graph (numbers rest) error (k.walking graph h) (on_top work rest (Err error) e));
   }
 
-  pub answers_entered : {test : ID → Bool} {expansions : List (Expansion T E)} {starts work given : List (Result T E)} (eq : ID → ID → Bool) (test2 : ID → Bool)
+  pub expansions_entered : {test : ID → Bool} {expansions : List (Expansion T E)} {starts work yielded : List (Result T E)} (eq : ID → ID → Bool) (test2 : ID → Bool)
       (rest : List (Result T E)) (x : T) (i : ID) (below : List (Result T E))
       → AreNodes g (ok_items (numbers below)) → ((i j : ID) → g.is_node (g.id i) ≡ true → g.is_node (g.id j) ≡ true → eq i j ≡ (g.id i == g.id j))
-      → ((y : Expansion T E) → Contains expansions y → Contains given (Ok y.node))
-      → IsWalkingExpansions g test expansions starts work given → work ≡ rest ++ Ok x ∷ [] → g.id i ≡ g.node x → false ≡ test i
+      → ((y : Expansion T E) → Contains expansions y → Contains yielded (Ok y.node))
+      → IsWalkingExpansions g test expansions starts work yielded → work ≡ rest ++ Ok x ∷ [] → g.id i ≡ g.node x → false ≡ test i
       → ((q : ID) → test2 q ≡ cond (eq i q) true (test q))
-      → IsWalkingExpansions g test2 (record { node = x; items = below } ∷ expansions) starts (rest ++ below) (given ++ Ok x ∷ [])
-  answers_entered {test} {expansions} {starts} {work} {given} eq test2 rest x i below nodes apart expanded k e same is updates =
+      → IsWalkingExpansions g test2 (record { node = x; items = below } ∷ expansions) starts (rest ++ below) (yielded ++ Ok x ∷ [])
+  expansions_entered {test} {expansions} {starts} {work} {yielded} eq test2 rest x i below nodes apart expanded k e same is updates =
       let new : Expansion T E = record { node = x; items = below } in
       let top : numbers work ≡ numbers rest ++ Ok (g.node x) ∷ [] = on_top work rest (Ok x) e in
-      let none = item_tested g (expansions_graph g.node expansions) (numbers rest) (g.node x) i false (k.walking _ k.has_answers) top same is in
+      let none = item_tested g (expansions_graph g.node expansions) (numbers rest) (g.node x) i false (k.walking _ k.has_items) top same is in
       record {
-        has_answers = has_one_more g.node new expansions k.has_answers (λ y h same_number.
-            let given_at : Contains (numbers given) (Ok (g.node y.node)) = in_map (item_of g.node) given (Ok y.node) (expanded y h) in
-            let sound_at = has-from_Contains (ok_items (numbers given)) (g.node y.node) (Contains-sound (numbers given) (g.node y.node) given_at) in
-            true≢false (sym sound_at ∙ subst (λ (a : ℕ). has (ok_items (numbers given)) a ≡ false) same_number none));
+        has_items = has_one_more g.node new expansions k.has_items (λ y h same_number.
+            let yielded_at : Contains (numbers yielded) (Ok (g.node y.node)) = in_map (item_of g.node) yielded (Ok y.node) (expanded y h) in
+            let sound_at = has-from_Contains (ok_items (numbers yielded)) (g.node y.node) (Contains-ok_items (numbers yielded) (g.node y.node) yielded_at) in
+            true≢false (sym sound_at ∙ subst (λ (a : ℕ). has (ok_items (numbers yielded)) a ≡ false) same_number none));
         walking = λ graph h.
             let listed : graph (g.node x) ≡ numbers below = h new (at_first new expansions) in
             let before = k.walking graph (λ y at. h y (in_rest new expansions y at)) in
             let after = walking_item_entered g graph eq test2 (numbers rest) (g.node x) i (subst (λ (l : List (Result ℕ E)). AreNodes g (ok_items l)) (sym listed) nodes) apart before top same is updates in
             let work_is : numbers rest ++ graph (g.node x) ≡ numbers (rest ++ below) = ap (λ (l : List (Result ℕ E)). numbers rest ++ l) listed ∙ sym (map-append (item_of g.node) rest below) in
-            let given_is : numbers given ++ Ok (g.node x) ∷ [] ≡ numbers (given ++ Ok x ∷ []) = sym (map-append (item_of g.node) given (Ok x ∷ [])) in
-            subst (λ (l : List (Result ℕ E)). IsWalkingItems g graph (numbers starts) test2 l (numbers (given ++ Ok x ∷ []))) work_is
+            let given_is : numbers yielded ++ Ok (g.node x) ∷ [] ≡ numbers (yielded ++ Ok x ∷ []) = sym (map-append (item_of g.node) yielded (Ok x ∷ [])) in
+            subst (λ (l : List (Result ℕ E)). IsWalkingItems g graph (numbers starts) test2 l (numbers (yielded ++ Ok x ∷ []))) work_is
             (subst (λ (l : List (Result ℕ E)). IsWalkingItems g graph (numbers starts) test2 (numbers rest ++ graph (g.node x)) l) given_is after);
       }

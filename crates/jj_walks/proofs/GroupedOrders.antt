@@ -7,11 +7,11 @@ use Rattle.std.specs.List.{Contains, list_all, list_any}
 use Rattle.std.proofs.lemmas.List.{reverse-append}
 use Rattle.std.proofs.lemmas.Bool.{or_cases, or_left, or_right}
 use Rattle.jj_walks.specs.declared.graph.GraphEdge.{GraphEdge}
-use Rattle.jj_walks.specs.Grouped.{AreReadChildFirst, Entry, Yielded, History, IsHistory, Prioritized, Reaches, Read, edges_to, first_prioritized, yielded_nodes, has_edge, pending_nodes, pending_at, is_unblocked, is_in_graph, is_required, last_edges, last_unblocked, leads_to, read_nodes, targets_of}
+use Rattle.jj_walks.specs.Grouped.{AreReadChildFirst, Entry, Yielded, History, IsHistory, Prioritized, ReachesId, Read, pending_in_degree, first_prioritized, yielded_nodes, has_edge, pending_nodes, pending_at, is_unblocked, is_in_graph, is_required, last_edges, last_unblocked, leads_to, read_nodes, targets_of}
 use Rattle.jj_walks.specs.GroupedOrders.{AreApart, AreGrouped, IsGroupedOrder, IsOldest, IsWhole, has_node, is_ready, newest_edges, prioritized_ids, PrioritizesFirst}
 use Rattle.jj_walks.proofs.Branches.{circle-free, edge-counted, edge-entry, reaches-more}
 use Rattle.jj_walks.proofs.CandidateLists.{and_left, and_right}
-use Rattle.jj_walks.proofs.Histories.{cons-cases, cons-first, cons-later, edge-counts, none-found, read-given, read-given_or_held}
+use Rattle.jj_walks.proofs.Histories.{cons-cases, cons-first, cons-later, edge-counts, none-found, read-yielded, read-yielded_or_held}
 use Rattle.jj_walks.proofs.HistoryLists.{congr-right, find-others, find-passes}
 use Rattle.jj_dag.proofs.Plain.{no-false}
 
@@ -112,10 +112,10 @@ module _ {N ID : Type 0} {eq : ID → ID → Bool} (laws : IsEquivalence eq) whe
   has-alike [] i j e = refl
   has-alike (f ∷ es) i j e = ap (λ b. b || has_node eq es i) (congr-right laws i j f.id e) ∙ ap (λ b. eq f.id j || b) (has-alike es i j e)
 
-  ready-alike : (nodes given : List (Entry N ID)) (i j : ID) → eq i j ≡ true → is_ready eq nodes given i ≡ is_ready eq nodes given j
-  ready-alike [] given i j e = refl
-  ready-alike (f ∷ nodes) given i j e =
-      ap (λ b. (not b || has_node eq given f.id) && is_ready eq nodes given i) (leads-alike laws i j f.edges e) ∙ ap (λ b. (not (list_any (leads_to eq j) f.edges) || has_node eq given f.id) && b) (ready-alike nodes given i j e)
+  ready-alike : (nodes yielded : List (Entry N ID)) (i j : ID) → eq i j ≡ true → is_ready eq nodes yielded i ≡ is_ready eq nodes yielded j
+  ready-alike [] yielded i j e = refl
+  ready-alike (f ∷ nodes) yielded i j e =
+      ap (λ b. (not b || has_node eq yielded f.id) && is_ready eq nodes yielded i) (leads-alike laws i j f.edges e) ∙ ap (λ b. (not (list_any (leads_to eq j) f.edges) || has_node eq yielded f.id) && b) (ready-alike nodes yielded i j e)
 
   found-node : (es : List (Entry N ID)) (f : Entry N ID) (i : ID) → Contains es f → eq f.id i ≡ true → find (λ e. eq e.id i) es ≡ None → ⊥
   found-node es f i m e none = true≢false (sym e ∙ none-found laws i es f none m)
@@ -126,11 +126,11 @@ module _ {N ID : Type 0} {eq : ID → ID → Bool} (laws : IsEquivalence eq) whe
   pending-read (Read f ∷ h) e m = ⊎_elim (λ s. cons-first (read_nodes h) f e s) (λ l. cons-later (read_nodes h) f e (pending-read h e l)) (cons-cases (pending_nodes eq h) f e m)
   pending-read (Yielded f ∷ h) e m = pending-read h e (filtered (λ g. not (eq f.id g.id)) (pending_nodes eq h) e m)
 
-  given-read : (h : History N ID) (e : Entry N ID) → IsHistory eq h → Contains (yielded_nodes h) e → Contains (read_nodes h) e
-  given-read [] e k m = m
-  given-read (Prioritized i ∷ h) e k m = given-read h e k m
-  given-read (Read f ∷ h) e k m = cons-later (read_nodes h) f e (given-read h e k.1 m)
-  given-read (Yielded f ∷ h) e k m = ⊎_elim (λ s. pending-read h e (found-in (λ g. eq g.id f.id) (pending_nodes eq h) e (k.0.pending ∙ ap (λ x. Some x) s))) (λ l. given-read h e k.1 l) (cons-cases (yielded_nodes h) f e m)
+  yielded-read : (h : History N ID) (e : Entry N ID) → IsHistory eq h → Contains (yielded_nodes h) e → Contains (read_nodes h) e
+  yielded-read [] e k m = m
+  yielded-read (Prioritized i ∷ h) e k m = yielded-read h e k m
+  yielded-read (Read f ∷ h) e k m = cons-later (read_nodes h) f e (yielded-read h e k.1 m)
+  yielded-read (Yielded f ∷ h) e k m = ⊎_elim (λ s. pending-read h e (found-in (λ g. eq g.id f.id) (pending_nodes eq h) e (k.0.pending ∙ ap (λ x. Some x) s))) (λ l. yielded-read h e k.1 l) (cons-cases (yielded_nodes h) f e m)
 
   none-after : (b : Bool) (o : Option (Entry N ID)) → (b ≡ true) ⊎ (o ≡ None) → cond b None o ≡ None
   none-after true o k = refl
@@ -138,15 +138,15 @@ module _ {N ID : Type 0} {eq : ID → ID → Bool} (laws : IsEquivalence eq) whe
   none-after false o (inr e) = e
 
   -- a yielded node is no longer pending
-  given-gone : (h : History N ID) (e : Entry N ID) → AreApart eq (read_nodes h) → IsHistory eq h → Contains (yielded_nodes h) e → pending_at eq h e.id ≡ None
-  given-gone [] e apart k m = nothing m
-  given-gone (Prioritized i ∷ h) e apart k m = given-gone h e apart k m
-  given-gone (Read f ∷ h) e apart k m =
-      let other : eq f.id e.id ≡ false = false-from (eq f.id e.id) (λ s. true≢false (sym (any-at (λ g. eq g.id f.id) (read_nodes h) e (given-read h e k.1 m) (laws.symm e.id f.id ∙ s)) ∙ apart.0)) in
-      ap (λ b. cond b (Some f) (pending_at eq h e.id)) other ∙ given-gone h e apart.1 k.1 m
-  given-gone (Yielded f ∷ h) e apart k m =
+  yielded-gone : (h : History N ID) (e : Entry N ID) → AreApart eq (read_nodes h) → IsHistory eq h → Contains (yielded_nodes h) e → pending_at eq h e.id ≡ None
+  yielded-gone [] e apart k m = nothing m
+  yielded-gone (Prioritized i ∷ h) e apart k m = yielded-gone h e apart k m
+  yielded-gone (Read f ∷ h) e apart k m =
+      let other : eq f.id e.id ≡ false = false-from (eq f.id e.id) (λ s. true≢false (sym (any-at (λ g. eq g.id f.id) (read_nodes h) e (yielded-read h e k.1 m) (laws.symm e.id f.id ∙ s)) ∙ apart.0)) in
+      ap (λ b. cond b (Some f) (pending_at eq h e.id)) other ∙ yielded-gone h e apart.1 k.1 m
+  yielded-gone (Yielded f ∷ h) e apart k m =
       find-others eq laws f.id e.id (pending_nodes eq h) ∙ none-after (eq f.id e.id) (pending_at eq h e.id)
-      (⊎_elim (λ s. inl (ap (λ x. eq f.id x.id) (sym s) ∙ laws.refl f.id)) (λ l. inr (given-gone h e apart k.1 l)) (cons-cases (yielded_nodes h) f e m))
+      (⊎_elim (λ s. inl (ap (λ x. eq f.id x.id) (sym s) ∙ laws.refl f.id)) (λ l. inr (yielded-gone h e apart k.1 l)) (cons-cases (yielded_nodes h) f e m))
 
   newest-last : (h : History N ID) → last_edges h ≡ newest_edges (yielded_nodes h)
   newest-last [] = refl
@@ -155,44 +155,44 @@ module _ {N ID : Type 0} {eq : ID → ID → Bool} (laws : IsEquivalence eq) whe
   newest-last (Yielded e ∷ h) = refl
 
   -- an edge that was read makes its target required until it is yielded
-  read-wanted : (h : History N ID) (c : Entry N ID) (t : ID) → Contains (read_nodes h) c → list_any (leads_to eq t) c.edges ≡ true → ((f : Entry N ID) → Contains (yielded_nodes h) f → eq f.id t ≡ false) → is_required eq h t ≡ true
-  read-wanted [] c t m e none = nothing m
-  read-wanted (Prioritized i ∷ h) c t m e none = or_right (eq i t) (is_required eq h t) (read-wanted h c t m e none)
-  read-wanted (Read f ∷ h) c t m e none = ⊎_elim (λ s. or_left (list_any (leads_to eq t) f.edges) (is_required eq h t) (ap (λ x. list_any (leads_to eq t) x.edges) s ∙ e))
-      (λ l. or_right (list_any (leads_to eq t) f.edges) (is_required eq h t) (read-wanted h c t l e none)) (cons-cases (read_nodes h) f c m)
-  read-wanted (Yielded f ∷ h) c t m e none =
-      ap (λ b. not b && is_required eq h t) (none f (cons-first (yielded_nodes h) f f refl)) ∙ read-wanted h c t m e (λ g n. none g (cons-later (yielded_nodes h) f g n))
+  read-required : (h : History N ID) (c : Entry N ID) (t : ID) → Contains (read_nodes h) c → list_any (leads_to eq t) c.edges ≡ true → ((f : Entry N ID) → Contains (yielded_nodes h) f → eq f.id t ≡ false) → is_required eq h t ≡ true
+  read-required [] c t m e none = nothing m
+  read-required (Prioritized i ∷ h) c t m e none = or_right (eq i t) (is_required eq h t) (read-required h c t m e none)
+  read-required (Read f ∷ h) c t m e none = ⊎_elim (λ s. or_left (list_any (leads_to eq t) f.edges) (is_required eq h t) (ap (λ x. list_any (leads_to eq t) x.edges) s ∙ e))
+      (λ l. or_right (list_any (leads_to eq t) f.edges) (is_required eq h t) (read-required h c t l e none)) (cons-cases (read_nodes h) f c m)
+  read-required (Yielded f ∷ h) c t m e none =
+      ap (λ b. not b && is_required eq h t) (none f (cons-first (yielded_nodes h) f f refl)) ∙ read-required h c t m e (λ g n. none g (cons-later (yielded_nodes h) f g n))
 
-  -- a node that leads to a node yielded in turn was yielded before
-  grouped-children : (nodes given : List (Entry N ID)) (f c : Entry N ID) → AreGrouped eq nodes given → Contains given f → Contains nodes c → list_any (leads_to eq f.id) c.edges ≡ true → has_node eq given c.id ≡ true
+  -- a node that leads to a yielded node was yielded before
+  grouped-children : (nodes yielded : List (Entry N ID)) (f c : Entry N ID) → AreGrouped eq nodes yielded → Contains yielded f → Contains nodes c → list_any (leads_to eq f.id) c.edges ≡ true → has_node eq yielded c.id ≡ true
   grouped-children nodes [] f c k m n e = nothing m
-  grouped-children nodes (g ∷ given) f c k m n e = ⊎_elim
-      (λ s. or_right (eq g.id c.id) (has_node eq given c.id) (implied (list_any (leads_to eq g.id) c.edges) (has_node eq given c.id) (ap (λ x. list_any (leads_to eq x.id) c.edges) s ∙ e) (all-at (λ d. not (list_any (leads_to eq g.id) d.edges) || has_node eq given d.id) nodes c k.0.ready n)))
-      (λ l. or_right (eq g.id c.id) (has_node eq given c.id) (grouped-children nodes given f c k.1 l n e)) (cons-cases given g f m)
+  grouped-children nodes (g ∷ yielded) f c k m n e = ⊎_elim
+      (λ s. or_right (eq g.id c.id) (has_node eq yielded c.id) (implied (list_any (leads_to eq g.id) c.edges) (has_node eq yielded c.id) (ap (λ x. list_any (leads_to eq x.id) c.edges) s ∙ e) (all-at (λ d. not (list_any (leads_to eq g.id) d.edges) || has_node eq yielded d.id) nodes c k.0.ready n)))
+      (λ l. or_right (eq g.id c.id) (has_node eq yielded c.id) (grouped-children nodes yielded f c k.1 l n e)) (cons-cases yielded g f m)
     where
       implied : (a b : Bool) → a ≡ true → (not a || b) ≡ true → b ≡ true
       implied true b e k = k
       implied false b e k = no-false e
 
   module _ (nodes : List (Entry N ID)) (apart : AreApart eq nodes) (order : AreReadChildFirst eq nodes) where
-    grouped-ready : (h : History N ID) (newer : List (Entry N ID)) (i : ID) (e : Entry N ID) → nodes ≡ newer ++ read_nodes h → IsHistory eq h → Contains (read_nodes h) e → eq e.id i ≡ true → edges_to eq h i ≡ 0
+    grouped-ready : (h : History N ID) (newer : List (Entry N ID)) (i : ID) (e : Entry N ID) → nodes ≡ newer ++ read_nodes h → IsHistory eq h → Contains (read_nodes h) e → eq e.id i ≡ true → pending_in_degree eq h i ≡ 0
         → is_ready eq nodes (yielded_nodes h) i ≡ true
     grouped-ready h newer i e all k m same none = all-from (λ c. not (list_any (leads_to eq i) c.edges) || has_node eq (yielded_nodes h) c.id) nodes (λ c n. one c n (list_any (leads_to eq i) c.edges) refl)
       where
-        given : (c : Entry N ID) → Contains nodes c → list_any (leads_to eq i) c.edges ≡ true → has_node eq (yielded_nodes h) c.id ≡ true
-        given c n leads = ⊎_elim
+        yielded : (c : Entry N ID) → Contains nodes c → list_any (leads_to eq i) c.edges ≡ true → has_node eq (yielded_nodes h) c.id ≡ true
+        yielded c n leads = ⊎_elim
             (λ new. no-false (sym (order-later newer (read_nodes h) c e (subst (λ (l : List (Entry N ID)). AreReadChildFirst eq l) all order) new m) ∙ leads-alike laws e.id i c.edges same ∙ leads))
-            (λ old. ⊎_elim (λ g. any-at (λ x. eq x.id c.id) (yielded_nodes h) c g (laws.refl c.id)) (λ a. let pos = edge-counts laws i (pending_nodes eq h) c a leads in absurd (omega (arith, pos, none))) (read-given_or_held laws h k c old))
+            (λ old. ⊎_elim (λ g. any-at (λ x. eq x.id c.id) (yielded_nodes h) c g (laws.refl c.id)) (λ a. let pos = edge-counts laws i (pending_nodes eq h) c a leads in absurd (omega (arith, pos, none))) (read-yielded_or_held laws h k c old))
             (append-cases newer (read_nodes h) c (subst (λ (l : List (Entry N ID)). Contains l c) all n))
 
         one : (c : Entry N ID) → Contains nodes c → (b : Bool) → list_any (leads_to eq i) c.edges ≡ b → (not (list_any (leads_to eq i) c.edges) || has_node eq (yielded_nodes h) c.id) ≡ true
-        one c n true leads = or_right (not (list_any (leads_to eq i) c.edges)) (has_node eq (yielded_nodes h) c.id) (given c n leads)
+        one c n true leads = or_right (not (list_any (leads_to eq i) c.edges)) (has_node eq (yielded_nodes h) c.id) (yielded c n leads)
         one c n false leads = or_left (not (list_any (leads_to eq i) c.edges)) (has_node eq (yielded_nodes h) c.id) (ap not leads)
 
-    -- a ready target of the last node is free
+    -- a ready target of the last node is unblocked
     grouped-free : (h : History N ID) (newer : List (Entry N ID)) (t : ID) → nodes ≡ newer ++ read_nodes h → IsHistory eq h → AreGrouped eq nodes (yielded_nodes h) → Contains (targets_of (newest_edges (yielded_nodes h))) t
         → is_ready eq nodes (yielded_nodes h) t ≡ true → is_unblocked eq h t ≡ true
-    grouped-free h newer t all k grouped target ready = ap (λ b. b && (edges_to eq h t == 0)) (or_left (is_required eq h t) (is_some (pending_at eq h t)) (wanted (yielded_nodes h) refl grouped target)) ∙ eq-eqb (edges_to eq h t) 0 childless
+    grouped-free h newer t all k grouped target ready = ap (λ b. b && (pending_in_degree eq h t == 0)) (or_left (is_required eq h t) (is_some (pending_at eq h t)) (required (yielded_nodes h) refl grouped target)) ∙ eq-eqb (pending_in_degree eq h t) 0 childless
       where
         in-nodes : (c : Entry N ID) → Contains (read_nodes h) c → Contains nodes c
         in-nodes c m = subst (λ (l : List (Entry N ID)). Contains l c) (sym all) (append-later newer (read_nodes h) c m)
@@ -200,32 +200,32 @@ module _ {N ID : Type 0} {eq : ID → ID → Bool} (laws : IsEquivalence eq) whe
         read-apart : AreApart eq (read_nodes h)
         read-apart = apart-rest newer (read_nodes h) (subst (λ (l : List (Entry N ID)). AreApart eq l) all apart)
 
-        wanted : (given : List (Entry N ID)) → yielded_nodes h ≡ given → AreGrouped eq nodes given → Contains (targets_of (newest_edges given)) t → is_required eq h t ≡ true
-        wanted [] same g m = nothing m
-        wanted (a ∷ older) same g m =
+        required : (yielded : List (Entry N ID)) → yielded_nodes h ≡ yielded → AreGrouped eq nodes yielded → Contains (targets_of (newest_edges yielded)) t → is_required eq h t ≡ true
+        required [] same g m = nothing m
+        required (a ∷ older) same g m =
             let leads : list_any (leads_to eq t) a.edges ≡ true = target-leads laws a.edges t m in
-            let was : Contains (read_nodes h) a = given-read h a k (subst (λ (l : List (Entry N ID)). Contains l a) (sym same) (cons-first older a a refl)) in
-            read-wanted h a t was leads (λ f n. false-from (eq f.id t) (λ e.
+            let was : Contains (read_nodes h) a = yielded-read h a k (subst (λ (l : List (Entry N ID)). Contains l a) (sym same) (cons-first older a a refl)) in
+            read-required h a t was leads (λ f n. false-from (eq f.id t) (λ e.
             let to_f : list_any (leads_to eq f.id) a.edges ≡ true = leads-alike laws f.id t a.edges e ∙ leads in
             ⊎_elim (λ s. true≢false (sym (ap (λ x. list_any (leads_to eq x.id) a.edges) s ∙ to_f) ∙ no-loop nodes a order (in-nodes a was)))
             (λ l. true≢false (sym (grouped-children nodes older f a g.1 l (in-nodes a was) to_f) ∙ g.0.new))
             (cons-cases older a f (subst (λ (l : List (Entry N ID)). Contains l f) same n))))
 
-        childless : edges_to eq h t ≡ 0
-        childless = go (edges_to eq h t) refl
+        childless : pending_in_degree eq h t ≡ 0
+        childless = go (pending_in_degree eq h t) refl
           where
-            go : (n : ℕ) → edges_to eq h t ≡ n → edges_to eq h t ≡ 0
+            go : (n : ℕ) → pending_in_degree eq h t ≡ n → pending_in_degree eq h t ≡ 0
             go zero e = e
             go (suc n) e =
                 let more = edge-counted laws t (pending_nodes eq h) (omega (arith, e)) in
                 let c = edge-entry laws (pending_nodes eq h) more.0 t more.1 in
                 let n = in-nodes c.0 (pending-read h c.0 c.1) in
                 let was = all-at (λ d. not (list_any (leads_to eq t) d.edges) || has_node eq (yielded_nodes h) d.id) nodes c.0 ready n in
-                let given = any-from (λ x. eq x.id c.0.id) (yielded_nodes h) (⊎_elim (λ no. absurd (true≢false (sym no ∙ ap not c.3))) (λ yes. yes) (or_cases (not (list_any (leads_to eq t) c.0.edges)) (has_node eq (yielded_nodes h) c.0.id) was)) in
-                let gone : pending_at eq h given.0.id ≡ None = given-gone h given.0 read-apart k given.1 in
-                absurd (found-node (pending_nodes eq h) c.0 given.0.id c.1 (laws.symm c.0.id given.0.id ∙ given.2) gone)
+                let yielded = any-from (λ x. eq x.id c.0.id) (yielded_nodes h) (⊎_elim (λ no. absurd (true≢false (sym no ∙ ap not c.3))) (λ yes. yes) (or_cases (not (list_any (leads_to eq t) c.0.edges)) (has_node eq (yielded_nodes h) c.0.id) was)) in
+                let gone : pending_at eq h yielded.0.id ≡ None = yielded-gone h yielded.0 read-apart k yielded.1 in
+                absurd (found-node (pending_nodes eq h) c.0 yielded.0.id c.1 (laws.symm c.0.id yielded.0.id ∙ yielded.2) gone)
 
-    -- each node was yielded in turn
+    -- each node was yielded in its order
     pub grouped-history : (h : History N ID) (newer : List (Entry N ID)) → nodes ≡ newer ++ read_nodes h → IsHistory eq h → AreGrouped eq nodes (yielded_nodes h)
     grouped-history [] newer all k = tt
     grouped-history (Prioritized i ∷ h) newer all k = grouped-history h newer all k
@@ -243,7 +243,7 @@ module _ {N ID : Type 0} {eq : ID → ID → Bool} (laws : IsEquivalence eq) whe
           record {
             node = subst (λ (l : List (Entry N ID)). Contains l e) (sym all) (append-later newer (read_nodes h) e was);
             new = false-from (has_node eq (yielded_nodes h) e.id) (λ y. let d = any-from (λ x. eq x.id e.id) (yielded_nodes h) y in
-                found-node (pending_nodes eq h) e d.0.id at (laws.symm e.id d.0.id ∙ d.2) (given-gone h d.0 read_apart k.1 d.1));
+                found-node (pending_nodes eq h) e d.0.id at (laws.symm e.id d.0.id ∙ d.2) (yielded-gone h d.0 read_apart k.1 d.1));
             ready = ready;
             follows = follows before ready;
           },
@@ -270,24 +270,24 @@ module _ {N ID : Type 0} {eq : ID → ID → Bool} (laws : IsEquivalence eq) whe
             weaker (Some i) m = ready-alike nodes (yielded_nodes h) i e.id m ∙ ready
 
   -- an id is required since it was prioritized or an edge to it was read
-  wanted-from : (h : History N ID) (i : ID) → is_required eq h i ≡ true → ((j : ID) × Contains (prioritized_ids h) j × (eq j i ≡ true)) ⊎ ((c : Entry N ID) × Contains (read_nodes h) c × (list_any (leads_to eq i) c.edges ≡ true))
-  wanted-from [] i w = no-false w
-  wanted-from (Prioritized j ∷ h) i w = ⊎_elim (λ e. inl (j, cons-first (prioritized_ids h) j j refl, e))
-      (λ l. ⊎_elim (λ (k, m, e). inl (k, cons-later (prioritized_ids h) j k m, e)) (λ c. inr c) (wanted-from h i l)) (or_cases (eq j i) (is_required eq h i) w)
-  wanted-from (Read e ∷ h) i w = ⊎_elim (λ a. inr (e, cons-first (read_nodes h) e e refl, a))
-      (λ l. ⊎_elim (λ p. inl p) (λ (c, m, a). inr (c, cons-later (read_nodes h) e c m, a)) (wanted-from h i l)) (or_cases (list_any (leads_to eq i) e.edges) (is_required eq h i) w)
-  wanted-from (Yielded e ∷ h) i w = wanted-from h i (and_right (not (eq e.id i)) (is_required eq h i) w)
+  required-from : (h : History N ID) (i : ID) → is_required eq h i ≡ true → ((j : ID) × Contains (prioritized_ids h) j × (eq j i ≡ true)) ⊎ ((c : Entry N ID) × Contains (read_nodes h) c × (list_any (leads_to eq i) c.edges ≡ true))
+  required-from [] i w = no-false w
+  required-from (Prioritized j ∷ h) i w = ⊎_elim (λ e. inl (j, cons-first (prioritized_ids h) j j refl, e))
+      (λ l. ⊎_elim (λ (k, m, e). inl (k, cons-later (prioritized_ids h) j k m, e)) (λ c. inr c) (required-from h i l)) (or_cases (eq j i) (is_required eq h i) w)
+  required-from (Read e ∷ h) i w = ⊎_elim (λ a. inr (e, cons-first (read_nodes h) e e refl, a))
+      (λ l. ⊎_elim (λ p. inl p) (λ (c, m, a). inr (c, cons-later (read_nodes h) e c m, a)) (required-from h i l)) (or_cases (list_any (leads_to eq i) e.edges) (is_required eq h i) w)
+  required-from (Yielded e ∷ h) i w = required-from h i (and_right (not (eq e.id i)) (is_required eq h i) w)
 
   -- no id is required after its node was yielded
-  given-unwanted : (h : History N ID) (f : Entry N ID) (i : ID) → IsHistory eq h → PrioritizesFirst h → AreReadChildFirst eq (read_nodes h) → Contains (yielded_nodes h) f → eq f.id i ≡ true → is_required eq h i ≡ true → ⊥
-  given-unwanted [] f i k first order m e w = no-false w
-  given-unwanted (Prioritized j ∷ h) f i k first order m e w = nothing (subst (λ (l : List (Entry N ID)). Contains l f) first.0 (given-read h f k m))
-  given-unwanted (Read c ∷ h) f i k first order m e w = ⊎_elim
-      (λ a. true≢false (sym (leads-alike laws f.id i c.edges e ∙ a) ∙ order.0 f (cons-later (read_nodes h) c f (given-read h f k.1 m))))
-      (λ l. given-unwanted h f i k.1 first order.1 m e l) (or_cases (list_any (leads_to eq i) c.edges) (is_required eq h i) w)
-  given-unwanted (Yielded c ∷ h) f i k first order m e w = ⊎_elim
+  yielded-unwanted : (h : History N ID) (f : Entry N ID) (i : ID) → IsHistory eq h → PrioritizesFirst h → AreReadChildFirst eq (read_nodes h) → Contains (yielded_nodes h) f → eq f.id i ≡ true → is_required eq h i ≡ true → ⊥
+  yielded-unwanted [] f i k first order m e w = no-false w
+  yielded-unwanted (Prioritized j ∷ h) f i k first order m e w = nothing (subst (λ (l : List (Entry N ID)). Contains l f) first.0 (yielded-read h f k m))
+  yielded-unwanted (Read c ∷ h) f i k first order m e w = ⊎_elim
+      (λ a. true≢false (sym (leads-alike laws f.id i c.edges e ∙ a) ∙ order.0 f (cons-later (read_nodes h) c f (yielded-read h f k.1 m))))
+      (λ l. yielded-unwanted h f i k.1 first order.1 m e l) (or_cases (list_any (leads_to eq i) c.edges) (is_required eq h i) w)
+  yielded-unwanted (Yielded c ∷ h) f i k first order m e w = ⊎_elim
       (λ s. true≢false (sym (and_left (not (eq c.id i)) (is_required eq h i) w) ∙ ap not (ap (λ x. eq x.id i) s ∙ e)))
-      (λ l. given-unwanted h f i k.1 first order l e (and_right (not (eq c.id i)) (is_required eq h i) w)) (cons-cases (yielded_nodes h) c f m)
+      (λ l. yielded-unwanted h f i k.1 first order l e (and_right (not (eq c.id i)) (is_required eq h i) w)) (cons-cases (yielded_nodes h) c f m)
 
   some-pending : (h : History N ID) (f : Entry N ID) (i : ID) → Contains (pending_nodes eq h) f → eq f.id i ≡ true → is_some (pending_at eq h i) ≡ true
   some-pending h f i m e = go (pending_at eq h i) refl
@@ -299,10 +299,10 @@ module _ {N ID : Type 0} {eq : ID → ID → Bool} (laws : IsEquivalence eq) whe
   -- once the input is read, each required node is pending
   pub none-missing : (h : History N ID) (i : ID) → IsHistory eq h → PrioritizesFirst h → IsWhole eq (read_nodes h) → ((j : ID) → Contains (prioritized_ids h) j → has_node eq (read_nodes h) j ≡ true)
       → is_required eq h i ≡ true → pending_at eq h i ≡ None → ⊥
-  none-missing h i k first whole among wanted none =
-      let known : has_node eq (read_nodes h) i ≡ true = ⊎_elim (λ (j, m, e). sym (has-alike (read_nodes h) j i e) ∙ among j m) (λ (c, m, e). whole.closed c i m e) (wanted-from h i wanted) in
+  none-missing h i k first whole among required none =
+      let known : has_node eq (read_nodes h) i ≡ true = ⊎_elim (λ (j, m, e). sym (has-alike (read_nodes h) j i e) ∙ among j m) (λ (c, m, e). whole.closed c i m e) (required-from h i required) in
       let f = any-from (λ e. eq e.id i) (read_nodes h) known in
-      ⊎_elim (λ g. given-unwanted h f.0 i k first whole.child_first g f.2 wanted) (λ a. found-node (pending_nodes eq h) f.0 i a f.2 none) (read-given_or_held laws h k f.0 f.1)
+      ⊎_elim (λ g. yielded-unwanted h f.0 i k first whole.child_first g f.2 required) (λ a. found-node (pending_nodes eq h) f.0 i a f.2 none) (read-yielded_or_held laws h k f.0 f.1)
 
   -- a node that is read is not pending
   pub none-twice : (h : History N ID) (e : Entry N ID) → has_node eq (read_nodes h) e.id ≡ false → is_some (pending_at eq h e.id) ≡ true → ⊥
@@ -313,13 +313,13 @@ module _ {N ID : Type 0} {eq : ID → ID → Bool} (laws : IsEquivalence eq) whe
       go (Some f) at s = true≢false (sym (any-at (λ x. eq x.id e.id) (read_nodes h) f (pending-read h f (found-in (λ x. eq x.id e.id) (pending_nodes eq h) f at)) (find-passes eq (λ x. eq x.id e.id) (pending_nodes eq h) f at)) ∙ apart)
 
   -- some pending node has no pending child
-  pub none-stuck : (h : History N ID) → AreReadChildFirst eq (read_nodes h) → (pending_nodes eq h ≡ [] → ⊥) → ((i : ID) → is_some (pending_at eq h i) ≡ true → edges_to eq h i ≡ 0 → ⊥) → ⊥
+  pub none-stuck : (h : History N ID) → AreReadChildFirst eq (read_nodes h) → (pending_nodes eq h ≡ [] → ⊥) → ((i : ID) → is_some (pending_at eq h i) ≡ true → pending_in_degree eq h i ≡ 0 → ⊥) → ⊥
   none-stuck h order some stuck = start (pending_nodes eq h) refl
     where
       above : (i : ID) → is_some (pending_at eq h i) ≡ true → (c : Entry N ID) × Contains (pending_nodes eq h) c × (list_any (leads_to eq i) c.edges ≡ true)
-      above i s = go (edges_to eq h i) refl
+      above i s = go (pending_in_degree eq h i) refl
         where
-          go : (n : ℕ) → edges_to eq h i ≡ n → (c : Entry N ID) × Contains (pending_nodes eq h) c × (list_any (leads_to eq i) c.edges ≡ true)
+          go : (n : ℕ) → pending_in_degree eq h i ≡ n → (c : Entry N ID) × Contains (pending_nodes eq h) c × (list_any (leads_to eq i) c.edges ≡ true)
           go zero e = absurd (stuck i s e)
           go (suc n) e =
               let more = edge-counted laws i (pending_nodes eq h) (omega (arith, e)) in
@@ -335,7 +335,7 @@ module _ {N ID : Type 0} {eq : ID → ID → Bool} (laws : IsEquivalence eq) whe
           f (pending-read h f at) (some-pending h f f.id at (laws.refl f.id))
 
   -- the first reaches the required id
-  first-reaches : (h : History N ID) (e : Entry N ID) (i : ID) → IsHistory eq h → AreReadChildFirst eq (read_nodes h) → IsOldest (yielded_nodes h) e → first_prioritized h ≡ Some i → Reaches eq (has_edge eq (read_nodes h)) e.id i
+  first-reaches : (h : History N ID) (e : Entry N ID) (i : ID) → IsHistory eq h → AreReadChildFirst eq (read_nodes h) → IsOldest (yielded_nodes h) e → first_prioritized h ≡ Some i → ReachesId eq (has_edge eq (read_nodes h)) e.id i
   first-reaches [] e i k order oldest first = absurd oldest
   first-reaches (Prioritized j ∷ []) e i k order oldest first = absurd oldest
   first-reaches (Prioritized j ∷ event ∷ h) e i k order oldest first = first-reaches (event ∷ h) e i k order oldest first
@@ -344,14 +344,14 @@ module _ {N ID : Type 0} {eq : ID → ID → Bool} (laws : IsEquivalence eq) whe
       (first-reaches h e i k.1 order.1 oldest first)
   first-reaches (Yielded f ∷ h) e i k order oldest first = go (yielded_nodes h) refl oldest (λ o. first-reaches h e i k.1 order o first)
     where
-      go : (given : List (Entry N ID)) → yielded_nodes h ≡ given → IsOldest (f ∷ given) e → (IsOldest (yielded_nodes h) e → Reaches eq (has_edge eq (read_nodes h)) e.id i) → Reaches eq (has_edge eq (read_nodes h)) e.id i
-      go [] none same below = subst (λ (x : Entry N ID). Reaches eq (has_edge eq (read_nodes h)) x.id i) same (k.0.first none order i first)
-      go (g ∷ given) more o below = below (subst (λ (l : List (Entry N ID)). IsOldest l e) (sym more) o)
+      go : (yielded : List (Entry N ID)) → yielded_nodes h ≡ yielded → IsOldest (f ∷ yielded) e → (IsOldest (yielded_nodes h) e → ReachesId eq (has_edge eq (read_nodes h)) e.id i) → ReachesId eq (has_edge eq (read_nodes h)) e.id i
+      go [] none same below = subst (λ (x : Entry N ID). ReachesId eq (has_edge eq (read_nodes h)) x.id i) same (k.0.first none order i first)
+      go (g ∷ yielded) more o below = below (subst (λ (l : List (Entry N ID)). IsOldest l e) (sym more) o)
 
   -- a whole run yields a grouped order
   pub grouped-order : (h : History N ID) → IsHistory eq h → IsWhole eq (read_nodes h) → pending_nodes eq h ≡ [] → IsGroupedOrder eq (read_nodes h) (first_prioritized h) (yielded_nodes h)
   grouped-order h k whole none = record {
-    all = λ e m. read-given laws h k none e m;
+    all = λ e m. read-yielded laws h k none e m;
     grouped = grouped-history (read_nodes h) whole.apart whole.child_first h [] refl k;
     first = λ e i oldest first. first-reaches h e i k whole.child_first oldest first;
   }

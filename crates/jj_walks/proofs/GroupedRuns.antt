@@ -2,7 +2,6 @@
 use Rattle.std.proofs.Common.{◌≡◌, Bool, List, [], ◌∷◌, ◌++◌, Option, Some, Result, Ok, map, refl, sym, subst}
 use Rattle.std.specs.Fn.{Shared}
 use Rattle.std.specs.Iterator.{Yields}
-use Rattle.std.specs.List.{AllZip}
 use Rattle.std.proofs.lemmas.List.{map-append}
 use denote.Ref.{Bor}
 use Rattle.jj_walks.specs.Grouped.{Entry, History, Read}
@@ -19,7 +18,7 @@ module _ {N ID F S E : Type 0} (ids : Shared F (Bor N × Unit {0}) (Bor ID)) (eq
   pub reads-push : (as_id : F) (s t u : S) (items : List (Item N ID)) (reads : List (Entry N ID)) (item : Item N ID) (e : Entry N ID) → ReadsTo ids eq steps as_id s items reads t
       → steps t (Some (Ok item)) u → IsEntryOf ids eq as_id item e → ReadsTo ids eq steps as_id s (items ++ item ∷ []) (reads ++ e ∷ []) u
   reads-push as_id s t u items reads item e k step entry = record {
-    given = subst (λ (l : List (Result (Item N ID) E)). Yields steps s l u) (sym (map-append ok items (item ∷ []))) (Yields-push steps (map ok items) (Ok item) s t u k.given step);
+    yielded = subst (λ (l : List (Result (Item N ID) E)). Yields steps s l u) (sym (map-append ok items (item ∷ []))) (Yields-push steps (map ok items) (Ok item) s t u k.yielded step);
     entries = zip-push (IsEntryOf ids eq as_id) items reads item e k.entries entry;
   }
     where

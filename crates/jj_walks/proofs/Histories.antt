@@ -56,17 +56,17 @@ module _ {N ID : Type 0} {eq : ID → ID → Bool} (laws : IsEquivalence eq) whe
       go rest false is found (inr later) = ⊎_elim (λ e. inl e) (λ m. inr (subst (λ (l : List (Entry N ID)). Contains l c) (sym (out false is)) (cons-later (filter (λ x. not (eq i x.id)) es) f c m))) (rest found later)
 
   -- each node that was read was yielded or is pending
-  pub read-given_or_held : (h : History N ID) → IsHistory eq h → (c : Entry N ID) → Contains (read_nodes h) c → Contains (yielded_nodes h) c ⊎ Contains (pending_nodes eq h) c
-  read-given_or_held [] k c (i, less, e) = absurd (omega arith)
-  read-given_or_held (Prioritized i ∷ h) k c m = read-given_or_held h k c m
-  read-given_or_held (Read e ∷ h) (none, k) c m =
+  pub read-yielded_or_held : (h : History N ID) → IsHistory eq h → (c : Entry N ID) → Contains (read_nodes h) c → Contains (yielded_nodes h) c ⊎ Contains (pending_nodes eq h) c
+  read-yielded_or_held [] k c (i, less, e) = absurd (omega arith)
+  read-yielded_or_held (Prioritized i ∷ h) k c m = read-yielded_or_held h k c m
+  read-yielded_or_held (Read e ∷ h) (none, k) c m =
       ⊎_elim (λ first. inr (cons-first (pending_nodes eq h) e c first))
-      (λ later. ⊎_elim (λ g. inl g) (λ a. inr (cons-later (pending_nodes eq h) e c a)) (read-given_or_held h k c later))
+      (λ later. ⊎_elim (λ g. inl g) (λ a. inr (cons-later (pending_nodes eq h) e c a)) (read-yielded_or_held h k c later))
       (cons-cases (read_nodes h) e c m)
-  read-given_or_held (Yielded e ∷ h) (next, k) c m =
+  read-yielded_or_held (Yielded e ∷ h) (next, k) c m =
       ⊎_elim (λ g. inl (cons-later (yielded_nodes h) e c g))
       (λ a. ⊎_elim (λ same. inl (cons-first (yielded_nodes h) e c same)) (λ l. inr l) (stays-pending e.id (pending_nodes eq h) e c (pending-unique eq laws h k) next.pending a))
-      (read-given_or_held h k c m)
+      (read-yielded_or_held h k c m)
 
   pub edge-counts : (i : ID) (es : List (Entry N ID)) (c : Entry N ID) → Contains es c → list_any (leads_to eq i) c.edges ≡ true → 0 < sum_by (λ e. count_by (leads_to eq i) e.edges) es
   edge-counts i [] c (k, less, e) any = absurd (omega arith)
@@ -76,8 +76,8 @@ module _ {N ID : Type 0} {eq : ID → ID → Bool} (laws : IsEquivalence eq) whe
       (λ later. let rest = edge-counts i es c later any in omega (arith, whole, rest)) (cons-cases es f c k)
 
   -- if nothing is pending, each node that was read was yielded
-  pub read-given : (h : History N ID) → IsHistory eq h → pending_nodes eq h ≡ [] → (c : Entry N ID) → Contains (read_nodes h) c → Contains (yielded_nodes h) c
-  read-given h k none c m = ⊎_elim (λ g. g) (λ a. absurd (nothing (subst (λ (l : List (Entry N ID)). Contains l c) none a))) (read-given_or_held h k c m)
+  pub read-yielded : (h : History N ID) → IsHistory eq h → pending_nodes eq h ≡ [] → (c : Entry N ID) → Contains (read_nodes h) c → Contains (yielded_nodes h) c
+  read-yielded h k none c m = ⊎_elim (λ g. g) (λ a. absurd (nothing (subst (λ (l : List (Entry N ID)). Contains l c) none a))) (read-yielded_or_held h k c m)
     where
       nothing : Contains [] c → ⊥
       nothing (i, less, e) = absurd (omega arith)

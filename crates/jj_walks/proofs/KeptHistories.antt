@@ -12,7 +12,7 @@ use Rattle.std.proofs.lemmas.List.Sums.{sum_by-cons}
 use Rattle.std.proofs.lemmas.List.Folds.{list_any-append}
 use Rattle.jj_walks.specs.declared.graph.GraphEdge.{GraphEdge}
 use Rattle.jj_walks.specs.Candidates.{AreSameIds, AreToFollow, count_of, has_id, is_listed, is_positive, is_zero}
-use Rattle.jj_walks.specs.Grouped.{Entry, History, Prioritized, Read, Yielded, IsOfFirstBranch, edges_to, yielded_nodes, pending_nodes, pending_at, is_unblocked, is_known, is_in_graph, is_required, last_edges, last_unblocked, leads_to, targets_of}
+use Rattle.jj_walks.specs.Grouped.{Entry, History, Prioritized, Read, Yielded, IsOfFirstBranch, pending_in_degree, yielded_nodes, pending_nodes, pending_at, is_unblocked, is_known, is_in_graph, is_required, last_edges, last_unblocked, leads_to, targets_of}
 use Rattle.std.specs.HashMap.{hash_map_len}
 use Rattle.std.specs.Map.{lookup}
 use Rattle.std.specs.Global.{Global}
@@ -201,7 +201,7 @@ module _ {ID : Type 0} {eq : ID → ID → Bool} (laws : IsEquivalence eq) where
             not_true true e = sym e
             not_true false e = refl
 
-    -- the last candidate is the last free target, if one is free
+    -- the last candidate is the last unblocked target, if one is unblocked
     last-found : (targets rest : List ID) (i : ID) → is_zero (count i) ≡ true → AreToFollow eq count targets (rest ++ i ∷ [])
         → MatchOption (find (λ t. is_zero (count t)) (reverse targets)) ⊤ (λ t. eq t i ≡ true)
     last-found targets rest i zero k = go (last-or-none k.pending)
@@ -235,7 +235,7 @@ module _ {N ID : Type 0} {eq : ID → ID → Bool} (laws : IsEquivalence eq) whe
       → ((q : ID) → is_some (more q) ≡ (eq i q || is_some (count q))) → ((q : ID) → count_of (more q) ≡ count_of (count q)) → heads2 ≡ heads ++ copy ∷ []
       → KeepsHistory eq h node_at count ids heads → KeepsHistory eq (Prioritized i ∷ h) node_at more ids heads2
   keeps-prioritized h node_at count more ids heads heads2 i copy same known counts pushed k = record {
-    told = k.told;
+    is_history = k.is_history;
     nodes = k.nodes;
     known = λ q. known q ∙ ap (λ b. eq i q || b) (k.known q) ∙ sym (or_assoc (eq i q) (is_required eq h q) (is_some (pending_at eq h q)));
     counts = λ q. counts q ∙ k.counts q;
@@ -265,7 +265,7 @@ module _ {N ID : Type 0} {eq : ID → ID → Bool} (laws : IsEquivalence eq) whe
       → ((q : ID) → eq e.id q ≡ true → (list_any (leads_to eq q) e.edges || is_some (count q)) ≡ true ⊎ (is_listed eq ids heads2 q ≡ true))
       → KeepsHistory eq h node_at count ids heads → KeepsHistory eq (Read e ∷ h) nodes2 more ids heads2
   keeps-read h node_at nodes2 count more ids heads heads2 e absent nodes known counts kept head k = record {
-    told = (none-mapped item_of (pending_at eq h e.id) (sym (k.nodes e.id) ∙ absent), k.told);
+    is_history = (none-mapped item_of (pending_at eq h e.id) (sym (k.nodes e.id) ∙ absent), k.is_history);
     nodes = λ q. nodes q ∙ ap (cond (eq e.id q) (Some (item_of e))) (k.nodes q) ∙ node (eq e.id q) (pending_at eq h q);
     known = λ q. known q ∙ ap (λ b. eq e.id q || (list_any (leads_to eq q) e.edges || b)) (k.known q) ∙ test (eq e.id q) (list_any (leads_to eq q) e.edges) (is_required eq h q) (pending_at eq h q);
     counts = λ q. let whole = sum_by-cons (λ f. count_by (leads_to eq q) f.edges) e (pending_nodes eq h) in let a = counts q in let b = k.counts q in omega (arith, whole, a, b);
@@ -305,7 +305,7 @@ module _ {N ID : Type 0} {eq : ID → ID → Bool} (laws : IsEquivalence eq) whe
       → AreSameIds eq (targets_of e.edges) added
       → (yielded_nodes h ≡ [] → IsOfFirstBranch eq h e) → KeepsHistory eq h node_at count (rest ++ i ∷ []) heads → KeepsHistory eq (Yielded e ∷ h) nodes2 more (rest ++ added) heads
   keeps-gave h node_at nodes2 count more rest added heads i e alike at zero nodes known counts pushed first k = record {
-    told = (record { pending = here; childless = sym (k.counts e.id) ∙ ap count_of (alike e.id i same) ∙ zero-count (count i) zero; follows = next; first = first }, k.told);
+    is_history = (record { pending = here; childless = sym (k.counts e.id) ∙ ap count_of (alike e.id i same) ∙ zero-count (count i) zero; follows = next; first = first }, k.is_history);
     nodes = λ q. nodes q ∙ ap (cond (eq i q) None) (k.nodes q) ∙ node (eq i q) (pending_at eq h q) ∙ ap (option_map item_of) (sym (after q));
     known = λ q. known q ∙ test (eq i q) (count q) (is_required eq h q) (pending_at eq h q) (k.known q) ∙ ap (λ b. (not b && is_required eq h q) || is_some (cond (eq i q) None (pending_at eq h q))) (sym (other q)) ∙ ap (λ o. (not (eq e.id q) && is_required eq h q) || is_some o) (sym (after q));
     counts = λ q. counts q ∙ left q (eq i q) refl;
@@ -334,7 +334,7 @@ module _ {N ID : Type 0} {eq : ID → ID → Bool} (laws : IsEquivalence eq) whe
       after q = find-others eq laws e.id q (pending_nodes eq h) ∙ ap (λ b. cond b None (pending_at eq h q)) (other q)
 
       free : (q : ID) → is_unblocked eq h q ≡ is_zero (count q)
-      free q = ap (λ b. b && (edges_to eq h q == 0)) (sym (k.known q)) ∙ ap (λ n. is_some (count q) && (n == 0)) (sym (k.counts q)) ∙ sym (zero-is (count q))
+      free q = ap (λ b. b && (pending_in_degree eq h q == 0)) (sym (k.known q)) ∙ ap (λ n. is_some (count q) && (n == 0)) (sym (k.counts q)) ∙ sym (zero-is (count q))
 
       next : MatchOption (last_unblocked eq h) ⊤ (λ t. eq t e.id ≡ true)
       next =
@@ -354,17 +354,17 @@ module _ {N ID : Type 0} {eq : ID → ID → Bool} (laws : IsEquivalence eq) whe
       test true o w f e = refl
       test false o w f e = e
 
-      sum : (q : ID) → edges_to eq (Yielded e ∷ h) q + count_by (leads_to eq q) e.edges ≡ edges_to eq h q
-      sum q = edges-others eq laws q e.id (pending_nodes eq h) e (pending-unique eq laws h k.told) here
+      sum : (q : ID) → pending_in_degree eq (Yielded e ∷ h) q + count_by (leads_to eq q) e.edges ≡ pending_in_degree eq h q
+      sum q = edges-others eq laws q e.id (pending_nodes eq h) e (pending-unique eq laws h k.is_history) here
 
-      left : (q : ID) (b : Bool) → eq i q ≡ b → count_of (cond (eq i q) None (count q)) - count_by (leads_to eq q) e.edges ≡ edges_to eq (Yielded e ∷ h) q
+      left : (q : ID) (b : Bool) → eq i q ≡ b → count_of (cond (eq i q) None (count q)) - count_by (leads_to eq q) e.edges ≡ pending_in_degree eq (Yielded e ∷ h) q
       left q true is =
           let a : count_of (cond (eq i q) None (count q)) ≡ 0 = ap (λ b. count_of (cond b None (count q))) is in
-          let b : edges_to eq h q ≡ 0 = sym (k.counts q) ∙ ap count_of (sym (alike i q is)) ∙ zero-count (count i) zero in
+          let b : pending_in_degree eq h q ≡ 0 = sym (k.counts q) ∙ ap count_of (sym (alike i q is)) ∙ zero-count (count i) zero in
           let s = sum q in
           omega (arith, a, b, s)
       left q false is =
-          let a : count_of (cond (eq i q) None (count q)) ≡ edges_to eq h q = ap (λ b. count_of (cond b None (count q))) is ∙ k.counts q in
+          let a : count_of (cond (eq i q) None (count q)) ≡ pending_in_degree eq h q = ap (λ b. count_of (cond b None (count q))) is ∙ k.counts q in
           let s = sum q in
           omega (arith, a, s)
 
@@ -406,7 +406,7 @@ pub keeps-taken : {N ID : Type 0} (eq : ID → ID → Bool) (h : History N ID) (
     → ((i : ID) → is_zero (count i) ≡ true → is_listed eq ids heads i ≡ true → is_listed eq ids2 heads2 i ≡ true) → ((targets : List ID) → AreToFollow eq count targets ids → AreToFollow eq count targets ids2)
     → KeepsHistory eq h node_at count ids heads → KeepsHistory eq h node_at count ids2 heads2
 keeps-taken eq h node_at count ids ids2 heads heads2 listed follows k = record {
-  told = k.told;
+  is_history = k.is_history;
   nodes = k.nodes;
   known = k.known;
   counts = k.counts;
@@ -414,16 +414,16 @@ keeps-taken eq h node_at count ids ids2 heads heads2 listed follows k = record {
   follows = follows (targets_of (last_edges h)) k.follows;
 }
 
--- if no candidate and no head is left, no id is free
+-- if no candidate and no head is left, no id is unblocked
 pub none-free : {N ID : Type 0} (eq : ID → ID → Bool) (h : History N ID) (node_at : ID → Option (N × List (GraphEdge ID))) (count : ID → Option ℕ) (ids heads : List ID)
-    → ids ≡ [] → heads ≡ [] → KeepsHistory eq h node_at count ids heads → (i : ID) → is_known eq h i ≡ true → edges_to eq h i ≡ 0 → ⊥
+    → ids ≡ [] → heads ≡ [] → KeepsHistory eq h node_at count ids heads → (i : ID) → is_known eq h i ≡ true → pending_in_degree eq h i ≡ 0 → ⊥
 none-free eq h node_at count ids heads no_ids no_heads k i known zero =
     true≢false (sym (k.listed i (zero-from (count i) (k.known i ∙ known) (k.counts i ∙ zero))) ∙ ap (λ l. is_listed eq l heads i) no_ids ∙ ap (λ l. is_listed eq [] l i) no_heads)
 
 -- an id that is counted and not pending is required
-pub unread-wanted : {N ID : Type 0} (eq : ID → ID → Bool) (h : History N ID) (node_at : ID → Option (N × List (GraphEdge ID))) (count : ID → Option ℕ) (ids heads : List ID) (i : ID)
+pub unread-required : {N ID : Type 0} (eq : ID → ID → Bool) (h : History N ID) (node_at : ID → Option (N × List (GraphEdge ID))) (count : ID → Option ℕ) (ids heads : List ID) (i : ID)
     → is_zero (count i) ≡ true → node_at i ≡ None → KeepsHistory eq h node_at count ids heads → (is_required eq h i ≡ true) × (pending_at eq h i ≡ None)
-unread-wanted eq h node_at count ids heads i zero absent k =
+unread-required eq h node_at count ids heads i zero absent k =
     let none : pending_at eq h i ≡ None = none-mapped item_of (pending_at eq h i) (sym (k.nodes i) ∙ absent) in
     (⊎_elim (λ a. a) (λ a. absurd (true≢false (sym a ∙ ap is_some none))) (or_cases (is_required eq h i) (is_some (pending_at eq h i)) (sym (k.known i) ∙ zero-some (count i) zero)), none)
 

@@ -46,7 +46,7 @@ begun_none g starts = record {
 
 pub leads_none : (g : Graph) (starts : List ℕ) → ContinuesFrom g starts [] starts
 leads_none g starts = record {
-  starts_met = λ a h. inr h;
+  starts_visited = λ a h. inr h;
   left_reached = λ a h. (a, h, (0, refl));
   forward = λ front back a b e edge. absurd (nothing a (subst (λ (l : List ℕ). Contains l a) (sym e) (at_split front a back)));
   above = λ a b h r. absurd (nothing a h);
@@ -74,7 +74,7 @@ begun_more g starts order left chunk begun leads once reached = record {
 
 pub leads_more : (g : Graph) (starts order left chunk left2 : List ℕ) → ContinuesFrom g starts order left → IsChunkOfAnyGraph g left chunk left2 → ContinuesFrom g starts (order ++ chunk) left2
 leads_more g starts order left chunk left2 leads stretch = record {
-  starts_met = λ a h. ⊎_elim (λ l. inl (Contains-append_left order chunk a l)) (λ r. inl (Contains-append_right order chunk a (stretch.has_starts a r))) (leads.starts_met a h);
+  starts_visited = λ a h. ⊎_elim (λ l. inl (Contains-append_left order chunk a l)) (λ r. inl (Contains-append_right order chunk a (stretch.has_starts a r))) (leads.starts_visited a h);
   left_reached = λ a h.
       let from = stretch.reached a (inr h) in
       let first = leads.left_reached from.0 from.1 in
@@ -113,7 +113,7 @@ behind g order forward (suc n) front back a b e (c, edge, p) =
 
 pub ended_all : (g : Graph) (starts order : List ℕ) → ContinuesFrom g starts order [] → (a : ℕ) → ReachedFrom g starts a → Contains order a
 ended_all g starts order leads a (s, at, (m, p)) =
-    let first : Contains order s = ⊎_elim (λ l. l) (λ r. absurd (nothing s r)) (leads.starts_met s at) in
+    let first : Contains order s = ⊎_elim (λ l. l) (λ r. absurd (nothing s r)) (leads.starts_visited s at) in
     Contains-reached g order closed m s a first p
   where
     closed : (b c : ℕ) → Contains order b → HasEdge g b c → Contains order c

@@ -18,7 +18,7 @@ use Rattle.jj_dag.specs.Expanding.{InModels, graph_at, whole}
 use Rattle.jj_dag.specs.ClosureGraph.{IsNeighborsError}
 use Rattle.jj_dag.specs.Graph.{Graph, ReachedFrom, ReachesCycle, IsAcyclicFrom, IsTopologicalOrder}
 use Rattle.jj_walks.specs.LazySteps.{IsCause, IsExhausted, IsLeftIn, IsLeftOf, yielded_or_ready}
-use Rattle.jj_dag.specs.Walk.{Model, AreNodes}
+use Rattle.jj_dag.specs.Walk.{GraphModel, AreNodes}
 use Rattle.jj_dag.proofs.Expanding.{fails_before, reached_through}
 use Rattle.jj_dag.proofs.Collecting.{are_nodes}
 use Rattle.jj_walks.proofs.LazyOrders.{begun_none, leads_none, begun_more, leads_more, one_stretch, ended_acyclic, ended_order, again_cycle}
@@ -32,7 +32,7 @@ cycle_through g starts left through a (reached, (b, (on, round))) =
 
 -- ---- in a model
 
-module _ {T ID E F N C : Type 0} (w : Model T ID) (eq : ID → ID → Bool) (starts : List ℕ) (yielded : List T) (s t : LazyOrder T ID E F N C) where
+module _ {T ID E F N C : Type 0} (w : GraphModel T ID) (eq : ID → ID → Bool) (starts : List ℕ) (yielded : List T) (s t : LazyOrder T ID E F N C) where
   yielded_only : s.ready.items ≡ [] → yielded_or_ready w.node yielded s ≡ map w.node yielded
   yielded_only empty = ap (λ (l : List T). map w.node (yielded ++ reverse l)) empty ∙ ap (map w.node) (append-nil yielded)
 
@@ -85,9 +85,9 @@ module _ {T ID E F N C : Type 0} (w : Model T ID) (eq : ID → ID → Bool) (sta
       k.begun.reached (w.node node) (subst (λ (l : List ℕ). Contains l (w.node node)) (sym (turned rest node e)) (at_split (map w.node yielded) (w.node node) (map w.node (reverse rest))))
 
   -- whether the node was yielded before, by a look-up of its id
-  told : (rest : List T) (node : T) (i : ID) (b : Bool) → IsLeftIn w eq starts yielded s → s.ready.items ≡ rest ++ node ∷ [] → w.is_node (w.node node) ≡ true → w.id i ≡ w.node node → contains eq s.emitted i ≡ b
+  tested : (rest : List T) (node : T) (i : ID) (b : Bool) → IsLeftIn w eq starts yielded s → s.ready.items ≡ rest ++ node ∷ [] → w.is_node (w.node node) ≡ true → w.id i ≡ w.node node → contains eq s.emitted i ≡ b
       → has (map w.node yielded) (w.node node) ≡ b
-  told rest node i b k e is_node same is =
+  tested rest node i b k e is_node same is =
       let here : w.is_node (w.id i) ≡ true = subst (λ (n : ℕ). w.is_node n ≡ true) (sym same) is_node in
       sym (ap (has (map w.node yielded)) same) ∙ sym (k.knows i here) ∙ is
 
@@ -95,7 +95,7 @@ module _ {T ID E F N C : Type 0} (w : Model T ID) (eq : ID → ID → Bool) (sta
       → ReachedFrom w.graph starts (w.node node) × ReachesCycle w.graph starts
   in_model_again rest node i k e is_node same is =
       again_cycle w.graph starts (yielded_or_ready w.node yielded s) (map w.node yielded) (map w.node (reverse rest)) (w.node node) k.begun (turned rest node e)
-      (Contains-from_has (map w.node yielded) (w.node node) (told rest node i true k e is_node same is))
+      (Contains-from_has (map w.node yielded) (w.node node) (tested rest node i true k e is_node same is))
 
   same_rest : IsLeftIn w eq starts yielded s → t.start ≡ s.start → t.failed ≡ s.failed → t.failed ≡ None → ContinuesFrom w.graph starts (yielded_or_ready w.node yielded s) (map w.node t.start.items)
   same_rest k start failed none = subst (λ v. ContinuesFrom w.graph starts (yielded_or_ready w.node yielded s) (map w.node v.items)) (sym start) (k.rest (sym failed ∙ none))
@@ -107,7 +107,7 @@ module _ {T ID E F N C : Type 0} (w : Model T ID) (eq : ID → ID → Bool) (sta
       let a = w.node node in
       let here : w.is_node (w.id i) ≡ true = subst (λ (n : ℕ). w.is_node n ≡ true) (sym same) is_node in
       let pushed : map w.node (yielded ++ node ∷ []) ≡ map w.node yielded ++ a ∷ [] = map-append w.node yielded (node ∷ []) in
-      let fresh : has (map w.node yielded) a ≡ false = told rest node i false k e is_node same is in
+      let fresh : has (map w.node yielded) a ≡ false = tested rest node i false k e is_node same is in
       let kept : yielded_or_ready w.node yielded s ≡ yielded_or_ready w.node (yielded ++ node ∷ []) t =
       ap (λ (l : List T). map w.node (yielded ++ reverse l)) e ∙ ap (λ (l : List T). map w.node (yielded ++ l)) (reverse-append rest (node ∷ []))
       ∙ ap (map w.node) (sym (append_assoc yielded (node ∷ []) (reverse rest))) ∙ ap (λ (l : List T). map w.node ((yielded ++ node ∷ []) ++ reverse l)) (sym ready) in
@@ -140,7 +140,7 @@ none_distinct : IsDistinct eqb []
 unfolding IsDistinct
 none_distinct = tt
 
-pub in_model_starts : {T ID E F N C : Type 0} (w : Model T ID) (eq : ID → ID → Bool) (s : LazyOrder T ID E F N C) (xs : List T) → s.ready.items ≡ [] → s.start.items ≡ xs → ((i : ID) → contains eq s.emitted i ≡ false)
+pub in_model_starts : {T ID E F N C : Type 0} (w : GraphModel T ID) (eq : ID → ID → Bool) (s : LazyOrder T ID E F N C) (xs : List T) → s.ready.items ≡ [] → s.start.items ≡ xs → ((i : ID) → contains eq s.emitted i ≡ false)
     → IsLeftIn w eq (map w.node xs) [] s
 in_model_starts {T} w eq s xs ready start unseen =
     let empty : yielded_or_ready w.node [] s ≡ [] = ap (λ (l : List T). map w.node (reverse l)) ready in
@@ -157,13 +157,13 @@ in_model_starts {T} w eq s xs ready start unseen =
 module _ {T ID E F N C U J : Type 0} (eq : ID → ID → Bool) (ids : Shared F (Bor T × Unit {0}) (Result ID AllocError)) (lists : Mut N (Bor T × Unit {0}) U) (value : into.Ghosts U (Result T E) J) (items : iter.Ghosts J (Result T E))
     {id_fn : F} {neighbors_fn : N} {on_cycle : C} {starts yielded : List T} {s : LazyOrder T ID E F N C} (k : IsLeftOf eq ids lists value items id_fn neighbors_fn on_cycle starts yielded s) where
   -- the closures implement the same models as at first
-  pub implement_now : (w : Model T ID) → (graph_at eq ids lists value items id_fn neighbors_fn).implements w → (graph_at eq ids lists value items s.graph.id_fn s.graph.neighbors_fn).implements w
+  pub implement_now : (w : GraphModel T ID) → (graph_at eq ids lists value items id_fn neighbors_fn).implements w → (graph_at eq ids lists value items s.graph.id_fn s.graph.neighbors_fn).implements w
   implement_now w implemented = rw k.graph.id_fn (k.graph.implemented w implemented)
 
-  pub left_nodes : s.failed ≡ None → (w : Model T ID) → (graph_at eq ids lists value items id_fn neighbors_fn).implements w → AreNodes w (map w.node starts) → AreNodes w (map w.node s.start.items)
+  pub left_nodes : s.failed ≡ None → (w : GraphModel T ID) → (graph_at eq ids lists value items id_fn neighbors_fn).implements w → AreNodes w (map w.node starts) → AreNodes w (map w.node s.start.items)
   left_nodes sound w implemented nodes b at = are_nodes w (whole w) (map w.node starts) implemented.closed nodes b (((k.models w implemented nodes).rest sound).left_reached b at)
 
-  pub next_is_node : (rest : List T) (node : T) → s.ready.items ≡ rest ++ node ∷ [] → (w : Model T ID) → (graph_at eq ids lists value items id_fn neighbors_fn).implements w → AreNodes w (map w.node starts) → w.is_node (w.node node) ≡ true
+  pub next_is_node : (rest : List T) (node : T) → s.ready.items ≡ rest ++ node ∷ [] → (w : GraphModel T ID) → (graph_at eq ids lists value items id_fn neighbors_fn).implements w → AreNodes w (map w.node starts) → w.is_node (w.node node) ≡ true
   next_is_node rest node e w implemented nodes =
       are_nodes w (whole w) (map w.node starts) implemented.closed nodes (w.node node) (next_reached w eq (map w.node starts) yielded s s rest node (k.models w implemented nodes) e)
 
@@ -198,7 +198,7 @@ module _ {T ID E F N C U J : Type 0} (eq : ID → ID → Bool) (ids : Shared F (
 
     -- the error was made of a node that was yielded before
     pub made_again : (rest : List T) (x : T) (i : ID) (error : E) (after : C) → s.ready.items ≡ rest ++ x ∷ [] → contains eq s.emitted i ≡ true → Called cycles s.cycle_fn (x, tt) error after
-        → ((w : Model T ID) → (graph_at eq ids lists value items s.graph.id_fn s.graph.neighbors_fn).implements w → w.is_node (w.node x) ≡ true → w.id i ≡ w.node x)
+        → ((w : GraphModel T ID) → (graph_at eq ids lists value items s.graph.id_fn s.graph.neighbors_fn).implements w → w.is_node (w.node x) ≡ true → w.id i ≡ w.node x)
         → IsCause eq ids lists value items cycles id_fn neighbors_fn on_cycle starts error
     made_again rest x i error after e old called same = inr (record {
       node = x;

@@ -1,5 +1,5 @@
 -- Steps of a depth-first search.
-use Rattle.std.proofs.Common.{◌≡◌, ℕ, Bool, true, true≢false, Result, Ok, Err, Option, None, Some, IfNone, IfSome, IfOk, IfErr, IsNone, List, [], ◌∷◌, ◌++◌, map, reverse, refl, sym, ◌∙◌, ap, subst, append_assoc, append-nil, ⊎_elim}
+use Rattle.std.proofs.Common.{◌≡◌, ℕ, Bool, true, true≢false, Result, Ok, Err, Option, None, Some, IfNone, IfSome, IfOk, IfErr, IsNone, List, [], ◌∷◌, ◌++◌, map, reverse, refl, sym, ◌∙◌, ap, subst, append_assoc, append-nil}
 use Rattle.std.specs.Fn.{Shared, Mut, FnReturns}
 use Rattle.std.specs.Iterator.{Count, IsFiniteIterable}
 use Rattle.std.specs.HashSet.{contains}
@@ -16,7 +16,7 @@ use Rattle.jj_dag.specs.ClosureGraph.{IsWalkable, MayReturn, ReturnsId}
 use Rattle.jj_dag.specs.Errors.{IfMemory, IfNode}
 use Rattle.jj_dag.specs.FallibleGraphs.{ok_items}
 use Rattle.jj_dag.specs.Graph.{IsPreorder}
-use Rattle.jj_dag.specs.Walk.{AreNodes, DrainsTo, IsWalking, Model}
+use Rattle.jj_dag.specs.Walk.{AreNodes, DrainsTo, IsWalking, GraphModel}
 use Rattle.jj_walks.specs.NextItem.{Enters, Fails, IsNode, Passes, WasVisited}
 use Rattle.jj_walks.specs.Expansions.{Expansion, ImplementsItems, IsRun, expansions_graph, item_of}
 use Rattle.jj_walks.specs.DfsSteps.{IsLeftOf}
@@ -24,41 +24,41 @@ use Rattle.jj_walks.specs.DfsOkSteps.{IsLeftOf as IsLeftOfItems, IsWalkingExpans
 use Rattle.jj_dag.specs.ClosureGraph.MayReturn.{at_once}
 use Rattle.jj_dag.proofs.ClosureGraphs.{implements_after, may_return_says, may_return_later}
 use Rattle.jj_dag.proofs.Walking.{is_node_on_top, walked, walking_entered, walking_passed}
-use Rattle.jj_dag.proofs.FailingWalks.{Contains-from_sound, ok_items-append, walked_items}
+use Rattle.jj_dag.proofs.FailingWalks.{Contains-from_ok_items, ok_items-append, walked_items}
 use Rattle.jj_walks.specs.Expansions.ExpansionsLead.{one_more}
 use Rattle.jj_walks.proofs.Chains.{chain_leads}
-use Rattle.jj_walks.proofs.Expanding.{answers_entered, answers_failed, answers_passed, in_map, in_reverse, numbered_back, on_top_is_node}
+use Rattle.jj_walks.proofs.Expanding.{expansions_entered, expansions_failed, expansions_passed, in_map, in_reverse, numbered_back, on_top_is_node}
 
 -- ---- infallible items
 
 module _ {T E ID F P N U S : Type 0} (finds : Shared P (T × Unit {0}) (Result T E)) (ids : Shared F (Bor T × Unit {0}) (Result ID AllocError)) (lists : Mut N (Bor T × Unit {0}) U)
     (eq : ID → ID → Bool) (node_of : P) (itself : (item node : T) → FnReturns finds node_of (item, tt) (Ok node) → item ≡ node)
-    (w : Model T ID) (becomes : U → S → Type 0) (steps : S → Option T → S → Type 0) (starts : List ℕ) (given : List T) (s : DepthFirst T ID F N)
-    (left : IsLeftOf ids lists w eq becomes steps starts given s) where
+    (w : GraphModel T ID) (becomes : U → S → Type 0) (steps : S → Option T → S → Type 0) (starts : List ℕ) (yielded : List T) (s : DepthFirst T ID F N)
+    (left : IsLeftOf ids lists w eq becomes steps starts yielded s) where
   -- the id of the node on top of the stack
-  id_on_top : (work rest : List T) (item node : T) (i : ID) → IsWalking w starts (contains eq s.visited) work given → work ≡ rest ++ item ∷ []
+  id_on_top : (work rest : List T) (item node : T) (i : ID) → IsWalking w starts (contains eq s.visited) work yielded → work ≡ rest ++ item ∷ []
       → IsNode finds ids eq node_of s.id_fn s.visited item node i → (item ≡ node) × (w.id i ≡ w.node item)
   id_on_top work rest item node i k e is =
       let same : item ≡ node = itself item node is.0 in
       (same, rw same (left.implemented.ids_match node i (subst (λ (x : T). w.is_node (w.node x) ≡ true) same (is_node_on_top w rest item k e)) is.1))
 
   -- visited nodes on top of it may be popped
-  without_passed : (passed rest work : List T) → IsWalking w starts (contains eq s.visited) work given → work ≡ rest ++ passed
-      → ((x : T) → Contains passed x → WasVisited finds ids eq node_of s.id_fn s.visited x) → IsWalking w starts (contains eq s.visited) rest given
-  without_passed [] rest work k e each = subst (λ (l : List T). IsWalking w starts (contains eq s.visited) l given) (e ∙ append-nil rest) k
+  without_passed : (passed rest work : List T) → IsWalking w starts (contains eq s.visited) work yielded → work ≡ rest ++ passed
+      → ((x : T) → Contains passed x → WasVisited finds ids eq node_of s.id_fn s.visited x) → IsWalking w starts (contains eq s.visited) rest yielded
+  without_passed [] rest work k e each = subst (λ (l : List T). IsWalking w starts (contains eq s.visited) l yielded) (e ∙ append-nil rest) k
   without_passed (x ∷ xs) rest work k e each =
       let below = without_passed xs (rest ++ x ∷ []) work k (e ∙ sym (append_assoc rest (x ∷ []) xs)) (λ y at. each y (Contains-append_right (x ∷ []) xs y at)) in
       let seen = each x (Contains-append_left (x ∷ []) xs x (Contains-push [] x)) in
       walking_passed w rest x seen.1 below refl (id_on_top (rest ++ x ∷ []) rest x seen.0 seen.1 below refl seen.2).1 (sym seen.3)
 
-  left_after : (rest : List T) → Passes finds ids eq node_of s.id_fn s.visited s.work.items rest → IsWalking w starts (contains eq s.visited) rest given
+  left_after : (rest : List T) → Passes finds ids eq node_of s.id_fn s.visited s.work.items rest → IsWalking w starts (contains eq s.visited) rest yielded
   left_after rest k = without_passed k.passed rest s.work.items left.walking k.above k.visited_before
 
   -- a node that is entered is emitted next
-  pub node_given : (node : T) (t : DepthFirst T ID F N) → t.id_fn ≡ s.id_fn
+  pub node_yielded : (node : T) (t : DepthFirst T ID F N) → t.id_fn ≡ s.id_fn
       → Enters finds ids eq node_of s.id_fn s.visited lists becomes steps s.work.items s.neighbors_fn node t.work.items t.visited t.neighbors_fn
-      → IsLeftOf ids lists w eq becomes steps starts (given ++ node ∷ []) t
-  node_given node t kept did =
+      → IsLeftOf ids lists w eq becomes steps starts (yielded ++ node ∷ []) t
+  node_yielded node t kept did =
       let before = left_after (did.rest ++ did.item ∷ []) did.passes in
       let known = id_on_top (did.rest ++ did.item ∷ []) did.rest did.item node did.id before refl did.is_node in
       let after = implements_after w eq ids lists (DrainsTo becomes steps) left.implemented did.called in
@@ -66,32 +66,32 @@ module _ {T E ID F P N U S : Type 0} (finds : Shared P (T × Unit {0}) (Result T
         implemented = rw kept after.0;
         walking = walking_entered w eq _ did.rest did.item did.id did.neighbors _ _ left.implemented.closed left.implemented.apart before refl known.1 (sym did.fresh)
             (λ here. rw known.0 (after.1 did.neighbors (rw known.0 at here) did.listed))
-            did.waits (ap (λ x. given ++ x ∷ []) (sym known.0)) did.updates.0;
+            did.queued (ap (λ x. yielded ++ x ∷ []) (sym known.0)) did.updates.0;
       }
 
   -- if only visited nodes are pending, the search is complete
-  pub all_given : Passes finds ids eq node_of s.id_fn s.visited s.work.items [] → IsPreorder w.graph starts (map w.node given)
-  all_given k = walked w (left_after [] k) refl
+  pub all_yielded : Passes finds ids eq node_of s.id_fn s.visited s.work.items [] → IsPreorder w.graph starts (map w.node yielded)
+  all_yielded k = walked w (left_after [] k) refl
 
 -- ---- items that may fail
 
 module _ {T E ID F P N U S : Type 0} (finds : Shared P (Result T E × Unit {0}) (Result T E)) (ids : Shared F (Bor T × Unit {0}) (Result ID AllocError)) (lists : Mut N (Bor T × Unit {0}) U)
     (eq : ID → ID → Bool) (node_of : P) (itself : (item found : Result T E) → FnReturns finds node_of (item, tt) found → item ≡ found)
     (becomes : U → S → Type 0) (steps : S → Option (Result T E) → S → Type 0) (s : DepthFirstOk T ID E F N) where
-  module _ (id_fn : F) (neighbors_fn : N) (starts given : List (Result T E))
-      (left : IsLeftOfItems ids lists eq becomes steps id_fn neighbors_fn starts given s) where
+  module _ (id_fn : F) (neighbors_fn : N) (starts yielded : List (Result T E))
+      (left : IsLeftOfItems ids lists eq becomes steps id_fn neighbors_fn starts yielded s) where
     -- each list is that of an emitted node
-    was_given : (x : Expansion T E) → Contains left.expansions x → Contains given (Ok x.node)
-    was_given x h =
+    was_yielded : (x : Expansion T E) → Contains left.expansions x → Contains yielded (Ok x.node)
+    was_yielded x h =
         let nodes : List T = map (λ (a : Expansion T E). a.node) left.expansions in
         let turned : Contains (reverse nodes) x.node = in_reverse nodes x.node (in_map (λ (a : Expansion T E). a.node) left.expansions x h) in
-        Contains-from_sound given x.node (subst (λ (l : List T). Contains l x.node) left.expanded turned)
+        Contains-from_ok_items yielded x.node (subst (λ (l : List T). Contains l x.node) left.expanded turned)
 
-    module _ (g : Model T ID) (implemented : ImplementsItems g eq ids lists (DrainsTo becomes steps) id_fn neighbors_fn)
+    module _ (g : GraphModel T ID) (implemented : ImplementsItems g eq ids lists (DrainsTo becomes steps) id_fn neighbors_fn)
         (start_nodes : AreNodes g (ok_items (map (item_of g.node) starts))) where
       -- the pending items of the search
       abbrev Waits : List (Result T E) → Type 0
-      Waits work = IsWalkingExpansions g (contains eq s.visited) left.expansions starts work given
+      Waits work = IsWalkingExpansions g (contains eq s.visited) left.expansions starts work yielded
 
       -- the top of the stack is the item that was popped
       top_is : (rest : List (Result T E)) (item found : Result T E) → Waits (rest ++ item ∷ []) → FnReturns finds node_of (item, tt) found → Waits (rest ++ found ∷ [])
@@ -109,65 +109,65 @@ module _ {T E ID F P N U S : Type 0} (finds : Shared P (Result T E × Unit {0}) 
           let all = items_without_passed xs (rest ++ x ∷ []) work k (e ∙ sym (append_assoc rest (x ∷ []) xs)) (λ y at. each y (Contains-append_right (x ∷ []) xs y at)) in
           let seen = each x (Contains-append_left (x ∷ []) xs x (Contains-push [] x)) in
           let below = top_is rest x (Ok seen.0) all seen.2.0 in
-          answers_passed g rest seen.0 seen.1 below refl (item_id_on_top rest seen.0 seen.1 below seen.2.1) (sym seen.3)
+          expansions_passed g rest seen.0 seen.1 below refl (item_id_on_top rest seen.0 seen.1 below seen.2.1) (sym seen.3)
 
       items_left_after : (rest : List (Result T E)) → Passes finds ids eq node_of s.id_fn s.visited s.work.items rest → Waits rest
       items_left_after rest k = items_without_passed k.passed rest s.work.items (left.walks g implemented start_nodes) k.above k.visited_before
 
       -- the neighbors returned for a node are nodes
-      answered_nodes : (node : T) (answer : U) (below : List (Result T E)) → MayReturn lists neighbors_fn node answer → DrainsTo becomes steps answer below → g.is_node (g.node node) ≡ true
+      listed_nodes : (node : T) (neighbor_list : U) (below : List (Result T E)) → MayReturn lists neighbors_fn node neighbor_list → DrainsTo becomes steps neighbor_list below → g.is_node (g.node node) ≡ true
           → AreNodes g (ok_items (map (item_of g.node) below))
-      answered_nodes node answer below may listed here a h =
+      listed_nodes node neighbor_list below may listed here a h =
           let says = may_return_says lists (λ (y : T) (r : U). (xs : List (Result T E)) (x : T) → g.is_node (g.node y) ≡ true → DrainsTo becomes steps r xs → Contains xs (Ok x)
           → Contains (g.graph (g.node y)) (g.node x)) implemented.partial may in
-          let back = numbered_back g.node below a (Contains-from_sound (map (item_of g.node) below) a h) in
+          let back = numbered_back g.node below a (Contains-from_ok_items (map (item_of g.node) below) a h) in
           subst (λ (n : ℕ). g.is_node n ≡ true) back.2 (implemented.complete.closed (g.node node) here (g.node back.0) (says below back.0 here listed back.1))
 
     -- a node that is entered is emitted next
-    item_given : (node : T) (t : DepthFirstOk T ID E F N) → t.id_fn ≡ s.id_fn
+    item_yielded : (node : T) (t : DepthFirstOk T ID E F N) → t.id_fn ≡ s.id_fn
         → Enters finds ids eq node_of s.id_fn s.visited lists becomes steps s.work.items s.neighbors_fn node t.work.items t.visited t.neighbors_fn
-        → IsLeftOfItems ids lists eq becomes steps id_fn neighbors_fn starts (given ++ Ok node ∷ []) t
-    item_given node t kept did =
+        → IsLeftOfItems ids lists eq becomes steps id_fn neighbors_fn starts (yielded ++ Ok node ∷ []) t
+    item_yielded node t kept did =
         let new : Expansion T E = record { node = node; items = did.neighbors } in
-        let may : MayReturn lists neighbors_fn node did.answer = may_return_later (chain_leads lists (DrainsTo becomes steps) neighbors_fn left.in_turn) (at_once did.called) in
+        let may : MayReturn lists neighbors_fn node did.neighbor_list = may_return_later (chain_leads lists (DrainsTo becomes steps) neighbors_fn left.in_turn) (at_once did.called) in
         let nodes : List T = map (λ (a : Expansion T E). a.node) left.expansions in
         record {
           same_ids = kept ∙ left.same_ids;
           expansions = new ∷ left.expansions;
           in_turn = one_more left.in_turn did.called did.listed;
-          expanded = reverse-append (node ∷ []) nodes ∙ ap (λ (l : List T). l ++ node ∷ []) left.expanded ∙ sym (ok_items-append given (Ok node ∷ []));
+          expanded = reverse-append (node ∷ []) nodes ∙ ap (λ (l : List T). l ++ node ∷ []) left.expanded ∙ sym (ok_items-append yielded (Ok node ∷ []));
           walks = λ g implemented start_nodes.
               let before = top_is g implemented start_nodes did.rest did.item (Ok node) (items_left_after g implemented start_nodes (did.rest ++ did.item ∷ []) did.passes) did.is_node.0 in
               let here = on_top_is_node g did.rest node before refl in
-              subst (λ (l : List (Result T E)). IsWalkingExpansions g (contains eq t.visited) (new ∷ left.expansions) starts l (given ++ Ok node ∷ [])) (sym did.waits)
-              (answers_entered g eq (contains eq t.visited) did.rest node did.id did.neighbors (answered_nodes g implemented start_nodes node did.answer did.neighbors may did.listed here) implemented.complete.apart was_given
+              subst (λ (l : List (Result T E)). IsWalkingExpansions g (contains eq t.visited) (new ∷ left.expansions) starts l (yielded ++ Ok node ∷ [])) (sym did.queued)
+              (expansions_entered g eq (contains eq t.visited) did.rest node did.id did.neighbors (listed_nodes g implemented start_nodes node did.neighbor_list did.neighbors may did.listed here) implemented.complete.apart was_yielded
               before refl (item_id_on_top g implemented start_nodes did.rest node did.id before did.is_node.1) (sym did.fresh) did.updates.0);
         }
 
     -- a failed item is emitted in order
     failed_given : (error : E) (t : DepthFirstOk T ID E F N) → t.id_fn ≡ s.id_fn → t.visited ≡ s.visited → t.neighbors_fn ≡ s.neighbors_fn
         → Fails finds ids eq node_of s.id_fn s.visited s.work.items error t.work.items
-        → IsLeftOfItems ids lists eq becomes steps id_fn neighbors_fn starts (given ++ Err error ∷ []) t
+        → IsLeftOfItems ids lists eq becomes steps id_fn neighbors_fn starts (yielded ++ Err error ∷ []) t
     failed_given error t kept same_visited same_neighbors did = record {
       same_ids = kept ∙ left.same_ids;
       expansions = left.expansions;
       in_turn = rw same_neighbors left.in_turn;
-      expanded = left.expanded ∙ sym (ok_items-append given (Err error ∷ []) ∙ append-nil (ok_items given));
+      expanded = left.expanded ∙ sym (ok_items-append yielded (Err error ∷ []) ∙ append-nil (ok_items yielded));
       walks = λ g implemented start_nodes.
           let before = top_is g implemented start_nodes t.work.items did.item (Err error) (items_left_after g implemented start_nodes (t.work.items ++ did.item ∷ []) did.passes) did.failed in
-          subst (λ v. IsWalkingExpansions g (contains eq v) left.expansions starts t.work.items (given ++ Err error ∷ [])) (sym same_visited) (answers_failed g t.work.items error before refl);
+          subst (λ v. IsWalkingExpansions g (contains eq v) left.expansions starts t.work.items (yielded ++ Err error ∷ [])) (sym same_visited) (expansions_failed g t.work.items error before refl);
     }
 
     -- if only visited nodes are pending, the search is complete
-    all_items_given : Passes finds ids eq node_of s.id_fn s.visited s.work.items [] → IsRun eq ids lists (DrainsTo becomes steps) id_fn neighbors_fn starts given
-    all_items_given k = record {
+    all_items_yielded : Passes finds ids eq node_of s.id_fn s.visited s.work.items [] → IsRun eq ids lists (DrainsTo becomes steps) id_fn neighbors_fn starts yielded
+    all_items_yielded k = record {
       expansions = left.expansions;
       last = s.neighbors_fn;
       in_turn = left.in_turn;
       expanded = left.expanded;
       preorder = λ g implemented start_nodes.
           let whole = items_left_after g implemented start_nodes [] k in
-          (whole.has_answers, walked_items g (expansions_graph g.node left.expansions) (whole.walking _ whole.has_answers) refl);
+          (whole.has_items, walked_items g (expansions_graph g.node left.expansions) (whole.walking _ whole.has_items) refl);
     }
 
   -- one call of `next`, which returns the item of the step
@@ -180,25 +180,25 @@ module _ {T E ID F P N U S : Type 0} (finds : Shared P (Result T E × Unit {0}) 
       → IfSome r (λ item. IfErr item (λ refused. IfMemory refused (t.work.items ≡ [])))
       → Steps ids lists eq becomes steps can count s r t
   step_of_items t can count None kept again ended none node failed refused = record {
-    walks = λ f n starts given k. (all_items_given f n starts given k none.0, none.1);
+    walks = λ f n starts yielded k. (all_items_yielded f n starts yielded k none.0, none.1);
     again = again;
     ends = none.1;
     ended = λ e. (refl, none.1);
   }
   step_of_items t can count (Some (Ok x)) kept again ended none node failed refused = record {
-    walks = λ f n starts given k. item_given f n starts given k x t kept node;
+    walks = λ f n starts yielded k. item_yielded f n starts yielded k x t kept node;
     again = again;
     ends = tt;
     ended = λ e. absurd (true≢false (ended e));
   }
   step_of_items t can count (Some (Err Memory)) kept again ended none node failed refused = record {
-    walks = λ f n starts given k. refused;
+    walks = λ f n starts yielded k. refused;
     again = again;
     ends = refused;
     ended = λ e. absurd (true≢false (ended e));
   }
   step_of_items t can count (Some (Err (Node error))) kept again ended none node failed refused = record {
-    walks = λ f n starts given k. failed_given f n starts given k error t kept failed.1 failed.2 failed.0;
+    walks = λ f n starts yielded k. failed_given f n starts yielded k error t kept failed.1 failed.2 failed.0;
     again = again;
     ends = tt;
     ended = λ e. absurd (true≢false (ended e));

@@ -6,7 +6,7 @@ use Rattle.std.specs.List.{AllZip, list_any}
 use Rattle.std.specs.Global.{Global}
 use Rattle.std.specs.declared.vec.Vec.{Vec}
 use Rattle.jj_walks.specs.declared.graph.GraphEdge.{GraphEdge}
-use Rattle.jj_walks.specs.Reversed.{ShownGraph, shown_graph, edge_to, reversed_edges, incoming_edges, with_incoming, reversed_graph, LeadsToId, ShowsById}
+use Rattle.jj_walks.specs.Reversed.{EdgeLists, edge_lists, edge_to, reversed_edges, incoming_edges, with_incoming, reversed_graph, LeadsToId, HasEdgesById}
 
 AllZip-append : {A B : Type 0} (R : A → B → Type 0) (xs more : List A) (ys last : List B) → AllZip R xs ys → AllZip R more last → AllZip R (xs ++ more) (ys ++ last)
 AllZip-append R [] more [] last k h = h
@@ -24,7 +24,7 @@ module _ {N ID : Type 0} (eq : ID → ID → Bool) where
       one true = refl
       one false = refl
 
-  incoming_edges-push : (q : ID) (graph : ShownGraph N ID) (node : N) (edges : List (GraphEdge ID))
+  incoming_edges-push : (q : ID) (graph : EdgeLists N ID) (node : N) (edges : List (GraphEdge ID))
       → incoming_edges eq q (graph ++ (node, edges) ∷ []) ≡ incoming_edges eq q graph ++ reversed_edges eq q node edges
   incoming_edges-push q [] node edges = append-nil (reversed_edges eq q node edges)
   incoming_edges-push q (entry ∷ graph) node edges =
@@ -33,7 +33,7 @@ module _ {N ID : Type 0} (eq : ID → ID → Bool) where
 
   module _ (clone : ID → ID → Type 0) (id : N → ID) where
     abbrev Leads : List (GraphEdge N) → List (GraphEdge ID) → Type 0
-    Leads edges given = AllZip (LeadsToId clone id) edges given
+    Leads edges returned = AllZip (LeadsToId clone id) edges returned
 
     -- one more edge of a node is reversed
     pub leads_turned : (before : List (GraphEdge N)) (edges : List (GraphEdge ID)) (edge : GraphEdge ID) (node : N) (source q : ID) (old new : List (GraphEdge ID)) → clone (id node) source
@@ -48,15 +48,15 @@ module _ {N ID : Type 0} (eq : ID → ID → Bool) where
             (AllZip-append (LeadsToId clone id) (before ++ reversed_edges eq q node edges) (edge_to node edge ∷ []) old (record { target = source; edge_type = edge.edge_type } ∷ []) k ((copy, refl), tt))
         step false = subst (λ (l : List (GraphEdge N)). Leads (before ++ l) old) (sym (append-nil (reversed_edges eq q node edges))) k
 
-    pub leads_nothing : (before : List (GraphEdge N)) (given : List (GraphEdge ID)) → Leads before given → Leads (before ++ []) given
-    leads_nothing before given k = subst (λ (l : List (GraphEdge N)). Leads l given) (sym (append-nil before)) k
+    pub leads_nothing : (before : List (GraphEdge N)) (returned : List (GraphEdge ID)) → Leads before returned → Leads (before ++ []) returned
+    leads_nothing before returned k = subst (λ (l : List (GraphEdge N)). Leads l returned) (sym (append-nil before)) k
 
     -- all edges of a node are reversed
-    pub leads_entered : (nodes : List (N × Vec (GraphEdge ID) Global)) (entry : N × Vec (GraphEdge ID) Global) (edges given : List (GraphEdge ID)) (q : ID) → edges ≡ entry.1.items
-        → Leads (incoming_edges eq q (shown_graph nodes) ++ reversed_edges eq q entry.0 edges) given → Leads (incoming_edges eq q (shown_graph (nodes ++ entry ∷ []))) given
-    leads_entered nodes entry edges given q same k =
-        subst (λ (l : List (GraphEdge N)). Leads l given) (
-        ap (λ l. incoming_edges eq q (shown_graph nodes) ++ reversed_edges eq q entry.0 l) same ∙ sym (incoming_edges-push q (shown_graph nodes) entry.0 entry.1.items)
+    pub leads_entered : (nodes : List (N × Vec (GraphEdge ID) Global)) (entry : N × Vec (GraphEdge ID) Global) (edges returned : List (GraphEdge ID)) (q : ID) → edges ≡ entry.1.items
+        → Leads (incoming_edges eq q (edge_lists nodes) ++ reversed_edges eq q entry.0 edges) returned → Leads (incoming_edges eq q (edge_lists (nodes ++ entry ∷ []))) returned
+    leads_entered nodes entry edges returned q same k =
+        subst (λ (l : List (GraphEdge N)). Leads l returned) (
+        ap (λ l. incoming_edges eq q (edge_lists nodes) ++ reversed_edges eq q entry.0 l) same ∙ sym (incoming_edges-push q (edge_lists nodes) entry.0 entry.1.items)
         ∙ ap (incoming_edges eq q) (sym (map-append {B = N × List (GraphEdge ID)} (λ e. (e.0, e.1.items)) nodes (entry ∷ [])))
         ) k
 
@@ -72,22 +72,22 @@ module _ {N ID : Type 0} (eq : ID → ID → Bool) where
         step false c h = h
 
     -- one more node was emitted
-    pub shows_more : (graph : ShownGraph N ID) (later : List N) (node : N) (edges : Vec (GraphEdge ID) Global) (done more : List (N × Vec (GraphEdge ID) Global)) → more ≡ done ++ (node, edges) ∷ []
+    pub shows_more : (graph : EdgeLists N ID) (later : List N) (node : N) (edges : Vec (GraphEdge ID) Global) (done more : List (N × Vec (GraphEdge ID) Global)) → more ≡ done ++ (node, edges) ∷ []
         → Leads (cond (list_any (λ other. eq (id other) (id node)) later) [] (incoming_edges eq (id node) graph)) edges.items
-        → ShowsById clone id (reverse (with_incoming eq id graph later)) (shown_graph done) → ShowsById clone id (reverse (with_incoming eq id graph (node ∷ later))) (shown_graph more)
+        → HasEdgesById clone id (reverse (with_incoming eq id graph later)) (edge_lists done) → HasEdgesById clone id (reverse (with_incoming eq id graph (node ∷ later))) (edge_lists more)
     shows_more graph later node edges done more pushed leads k =
-        subst (λ (l : ShownGraph N N). ShowsById clone id l (shown_graph more))
+        subst (λ (l : EdgeLists N N). HasEdgesById clone id l (edge_lists more))
         (sym (reverse-append ((node, cond (list_any (λ other. eq (id other) (id node)) later) [] (incoming_edges eq (id node) graph)) ∷ []) (with_incoming eq id graph later)))
-        (subst (λ (l : ShownGraph N ID). ShowsById clone id (reverse (with_incoming eq id graph later) ++ (node, cond (list_any (λ other. eq (id other) (id node)) later) [] (incoming_edges eq (id node) graph)) ∷ []) l)
-        (sym (ap shown_graph pushed ∙ map-append {B = N × List (GraphEdge ID)} (λ e. (e.0, e.1.items)) done ((node, edges) ∷ [])))
-        (AllZip-append (λ want got. (got.0 ≡ want.0) × AllZip (LeadsToId clone id) want.1 got.1) (reverse (with_incoming eq id graph later)) _ (shown_graph done) _ k ((refl, leads), tt)))
+        (subst (λ (l : EdgeLists N ID). HasEdgesById clone id (reverse (with_incoming eq id graph later) ++ (node, cond (list_any (λ other. eq (id other) (id node)) later) [] (incoming_edges eq (id node) graph)) ∷ []) l)
+        (sym (ap edge_lists pushed ∙ map-append {B = N × List (GraphEdge ID)} (λ e. (e.0, e.1.items)) done ((node, edges) ∷ [])))
+        (AllZip-append (λ expected actual. (actual.0 ≡ expected.0) × AllZip (LeadsToId clone id) expected.1 actual.1) (reverse (with_incoming eq id graph later)) _ (edge_lists done) _ k ((refl, leads), tt)))
 
     -- all nodes were emitted
-    pub shows_all : (nodes : List (N × Vec (GraphEdge ID) Global)) (rest later : List N) (given : ShownGraph N ID) → map (λ x. x.0) nodes ≡ rest ++ later → rest ≡ []
-        → ShowsById clone id (reverse (with_incoming eq id (shown_graph nodes) later)) given → ShowsById clone id (reversed_graph eq id (shown_graph nodes)) given
-    shows_all nodes rest later given all none k =
-        subst (λ (l : List N). ShowsById clone id (reverse (with_incoming eq id (shown_graph nodes) l)) given) (sym (nodes_of nodes ∙ all ∙ ap (λ l. l ++ later) none)) k
+    pub shows_all : (nodes : List (N × Vec (GraphEdge ID) Global)) (rest later : List N) (returned : EdgeLists N ID) → map (λ x. x.0) nodes ≡ rest ++ later → rest ≡ []
+        → HasEdgesById clone id (reverse (with_incoming eq id (edge_lists nodes) later)) returned → HasEdgesById clone id (reversed_graph eq id (edge_lists nodes)) returned
+    shows_all nodes rest later returned all none k =
+        subst (λ (l : List N). HasEdgesById clone id (reverse (with_incoming eq id (edge_lists nodes) l)) returned) (sym (nodes_of nodes ∙ all ∙ ap (λ l. l ++ later) none)) k
       where
-        nodes_of : (ns : List (N × Vec (GraphEdge ID) Global)) → map (λ entry. entry.0) (shown_graph ns) ≡ map (λ x. x.0) ns
+        nodes_of : (ns : List (N × Vec (GraphEdge ID) Global)) → map (λ entry. entry.0) (edge_lists ns) ≡ map (λ x. x.0) ns
         nodes_of [] = refl
         nodes_of (n ∷ ns) = ap (λ l. n.0 ∷ l) (nodes_of ns)

@@ -1,5 +1,5 @@
 -- Whole runs of the iterator over a grouped graph.
-use Rattle.std.proofs.Common.{◌≡◌, Bool, true, false, is_some, true≢false, List, [], ◌∷◌, ◌++◌, Option, None, Some, Result, Ok, Err, map, reverse, refl, sym, ◌∙◌, ap, subst, append_assoc, append-nil}
+use Rattle.std.proofs.Common.{◌≡◌, Bool, true, false, List, [], ◌∷◌, ◌++◌, Option, None, Some, Result, Ok, Err, map, reverse, refl, sym, ◌∙◌, ap, subst, append_assoc, append-nil}
 use Rattle.std.specs.Cmp.{IsEquivalence}
 use Rattle.std.specs.Fn.{Shared}
 use Rattle.std.specs.Iterator.{Drains, Yields}
@@ -10,7 +10,7 @@ use Rattle.jj_dag.proofs.Expanding.{zip-push}
 use Rattle.jj_walks.specs.declared.grouped.GroupedGraphError.{GroupedGraphError}
 use Rattle.jj_walks.specs.declared.grouped.GroupedGraphError.TheVariants.{Input, DuplicateId, MissingNode, NotChildFirst, Memory}
 use Rattle.jj_walks.specs.declared.grouped.GroupedNodes.{GroupedNodes}
-use Rattle.jj_walks.specs.Grouped.{Entry, Event, Yielded, History, IsHistory, Prioritized, Read, first_prioritized, yielded_nodes, pending_at, read_nodes}
+use Rattle.jj_walks.specs.Grouped.{Entry, Event, Yielded, History, IsHistory, Prioritized, Read, first_prioritized, yielded_nodes, read_nodes}
 use Rattle.jj_walks.specs.GroupedLaw.{Explains, FailsForCause, IsFailedRun, IsGroupedRun, IsUnread, YieldsGroupedOrders, first_of}
 use Rattle.jj_walks.specs.GroupedOrders.{IsGroupedOrder, IsWhole, PrioritizesFirst, has_node, prioritized_ids}
 use Rattle.jj_walks.specs.GroupedSteps.{Steps, IsCause, IsEntryOf, Item, ReadsTo, read_on}
@@ -43,9 +43,9 @@ module _ {N ID : Type 0} where
   read_on-gives [] h = refl
   read_on-gives (e ∷ es) h = read_on-gives es (Read e ∷ h)
 
-  read_on-wanted : (es : List (Entry N ID)) (h : History N ID) → first_prioritized (read_on es h) ≡ first_prioritized h
-  read_on-wanted [] h = refl
-  read_on-wanted (e ∷ es) h = read_on-wanted es (Read e ∷ h)
+  read_on-required : (es : List (Entry N ID)) (h : History N ID) → first_prioritized (read_on es h) ≡ first_prioritized h
+  read_on-required [] h = refl
+  read_on-required (e ∷ es) h = read_on-required es (Read e ∷ h)
 
   read_on-ids : (es : List (Entry N ID)) (h : History N ID) → prioritized_ids (read_on es h) ≡ prioritized_ids h
   read_on-ids [] h = refl
@@ -56,12 +56,12 @@ module _ {N ID : Type 0} where
   read_on-first (e ∷ es) h k = read_on-first es (Read e ∷ h) k
 
   -- the oldest event prioritized the id
-  oldest-wanted : (h : History N ID) (i : ID) → first_prioritized (h ++ Prioritized i ∷ []) ≡ Some i
-  oldest-wanted [] i = refl
-  oldest-wanted (Prioritized j ∷ []) i = refl
-  oldest-wanted (Prioritized j ∷ event ∷ h) i = oldest-wanted (event ∷ h) i
-  oldest-wanted (Read e ∷ h) i = oldest-wanted h i
-  oldest-wanted (Yielded e ∷ h) i = oldest-wanted h i
+  oldest-required : (h : History N ID) (i : ID) → first_prioritized (h ++ Prioritized i ∷ []) ≡ Some i
+  oldest-required [] i = refl
+  oldest-required (Prioritized j ∷ []) i = refl
+  oldest-required (Prioritized j ∷ event ∷ h) i = oldest-required (event ∷ h) i
+  oldest-required (Read e ∷ h) i = oldest-required h i
+  oldest-required (Yielded e ∷ h) i = oldest-required h i
 
   abbrev prioritized_only : List ID → History N ID
   prioritized_only is = reverse (map (λ i. Prioritized i) is)
@@ -110,7 +110,7 @@ first-prioritized : (N : Type 0) {ID : Type 0} (is : List ID) → first_prioriti
 first-prioritized N [] = refl
 first-prioritized N {ID} (i ∷ is) =
     let each : List (Event N ID) = map {B = Event N ID} (λ j. Prioritized j) is in
-    ap first_prioritized (reverse-append (Prioritized i ∷ []) each) ∙ oldest-wanted (prioritized_only {N = N} is) i
+    ap first_prioritized (reverse-append (Prioritized i ∷ []) each) ∙ oldest-required (prioritized_only {N = N} is) i
 
 -- ---- runs
 
@@ -133,7 +133,7 @@ module _ {N ID S E F : Type 0} (ids : Shared F (Bor N × Unit {0}) (Bor ID)) (eq
     order : List (Entry N ID)
     listed : AllZip (λ e x. item_of e ≡ listed_item x) order yielded
     gives : yielded_nodes h ≡ reverse order
-    wanted : first_prioritized h ≡ first_of prioritized
+    required : first_prioritized h ≡ first_of prioritized
     ids_are : prioritized_ids h ≡ reverse prioritized
     before : PrioritizesFirst h
 
@@ -141,7 +141,7 @@ module _ {N ID S E F : Type 0} (ids : Shared F (Bor N × Unit {0}) (Bor ID)) (eq
   module _ (s : GroupedNodes N ID S F) (yielded : List (Item N ID)) (k : IsReading s yielded) (items : List (Item N ID)) (more_entries : List (Entry N ID)) (u : S)
       (more : ReadsTo ids eq steps s.graph.as_id s.graph.input items more_entries u) where
     read-all : Yields steps input (map ok (k.nodes ++ items)) u
-    read-all = subst (λ l. Yields steps input l u) (sym (map-append ok k.nodes items)) (Yields-append steps (map ok k.nodes) (map ok items) input s.graph.input u k.read more.given)
+    read-all = subst (λ l. Yields steps input l u) (sym (map-append ok k.nodes items)) (Yields-append steps (map ok k.nodes) (map ok items) input s.graph.input u k.read more.yielded)
 
     ids-all : AllZip (IsEntryOf ids eq as_id) (k.nodes ++ items) (k.entries ++ more_entries)
     ids-all = zip-append (IsEntryOf ids eq as_id) k.nodes items k.entries more_entries k.have_ids (subst (λ a. AllZip (IsEntryOf ids eq a) items more_entries) k.same_as_id more.entries)
@@ -166,7 +166,7 @@ module _ {N ID S E F : Type 0} (ids : Shared F (Bor N × Unit {0}) (Bor ID)) (eq
         order = k.order ++ g.2 ∷ [];
         listed = zip-push (λ e y. item_of e ≡ listed_item y) k.order yielded g.2 x k.listed g.4;
         gives = ap (λ l. g.2 ∷ l) (read_on-gives g.1 k.h ∙ k.gives) ∙ sym (reverse-append k.order (g.2 ∷ []));
-        wanted = read_on-wanted g.1 k.h ∙ k.wanted;
+        required = read_on-required g.1 k.h ∙ k.required;
         ids_are = read_on-ids g.1 k.h ∙ k.ids_are;
         before = read_on-first g.1 k.h k.before;
       }
@@ -185,7 +185,7 @@ module _ {N ID S E F : Type 0} (ids : Shared F (Bor N × Unit {0}) (Bor ID)) (eq
         listed = k.listed;
         grouped = λ whole.
             subst (λ l. IsGroupedOrder eq l (first_of prioritized) (reverse k.order)) all
-            (subst (λ o. IsGroupedOrder eq (read_nodes h) o (reverse k.order)) (read_on-wanted g.1 k.h ∙ k.wanted)
+            (subst (λ o. IsGroupedOrder eq (read_nodes h) o (reverse k.order)) (read_on-required g.1 k.h ∙ k.required)
             (subst (λ l. IsGroupedOrder eq (read_nodes h) (first_prioritized h) l) (read_on-gives g.1 k.h ∙ k.gives)
             (grouped-order laws h g.5 (subst (λ l. IsWhole eq l) (sym all) whole) g.6)));
       }
@@ -199,19 +199,19 @@ module _ {N ID S E F : Type 0} (ids : Shared F (Bor N × Unit {0}) (Bor ID)) (eq
   -- the cause of an error in the input
   explains : (h : History N ID) (entries : List (Entry N ID)) (u t : S) (error : GroupedGraphError E) → IsHistory eq h → read_nodes h ≡ reverse entries → prioritized_ids h ≡ reverse prioritized → PrioritizesFirst h
       → IsCause ids eq steps as_id h u error t → Explains ids eq steps as_id prioritized entries u error
-  explains h entries u t (Input e) told reads ids_of before step = (t, step)
-  explains h entries u t DuplicateId told reads ids_of before (item, e, step, entry, twice) =
+  explains h entries u t (Input e) is_history reads ids_of before step = (t, step)
+  explains h entries u t DuplicateId is_history reads ids_of before (item, e, step, entry, twice) =
       let P : Bool → Type 0 = λ b. has_node eq (read_nodes h) e.id ≡ b → b ≡ true in
       let there : has_node eq (read_nodes h) e.id ≡ true = elim (has_node eq (read_nodes h) e.id) as P [ true ↦ λ is. refl | false ↦ λ is. absurd (none-twice laws h e is twice) ] refl in
       (t, item, e, step, entry, subst (λ l. has_node eq l e.id ≡ true) reads there)
-  explains h entries u t MissingNode told reads ids_of before (i, step, want, absent) = (
+  explains h entries u t MissingNode is_history reads ids_of before (i, step, want, absent) = (
     t,
     step,
-    λ whole all. none-missing laws h i told before (subst (λ l. IsWhole eq l) (sym reads) whole)
+    λ whole all. none-missing laws h i is_history before (subst (λ l. IsWhole eq l) (sym reads) whole)
         (λ j m. subst (λ l. has_node eq l j ≡ true) (sym reads) (all j (from_reverse prioritized j (subst (λ l. Contains l j) ids_of m)))) want absent,
   )
-  explains h entries u t NotChildFirst told reads ids_of before (step, more, stuck) = (t, step, λ whole. none-stuck laws h (subst (λ l. IsWhole eq l) (sym reads) whole).child_first more stuck)
-  explains h entries u t Memory told reads ids_of before cause = tt
+  explains h entries u t NotChildFirst is_history reads ids_of before (step, more, stuck) = (t, step, λ whole. none-stuck laws h (subst (λ l. IsWhole eq l) (sym reads) whole).child_first more stuck)
+  explains h entries u t Memory is_history reads ids_of before cause = tt
 
   fails : (s t : GroupedNodes N ID S F) (yielded : List (Item N ID)) (error : GroupedGraphError E) → IsReading s yielded → Steps ids eq steps s (Some (Err error)) t → IsFailedRun ids eq steps as_id input prioritized error
   fails s t yielded error k step =
@@ -245,7 +245,7 @@ module _ {N ID S E F : Type 0} (ids : Shared F (Bor N × Unit {0}) (Bor ID)) (eq
     order = [];
     listed = tt;
     gives = no-gives N prioritized;
-    wanted = first-prioritized N prioritized;
+    required = first-prioritized N prioritized;
     ids_are = ids-are N prioritized;
     before = first-only N prioritized;
   }

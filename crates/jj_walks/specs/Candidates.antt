@@ -38,17 +38,17 @@ module _ {ID : Type 0} (eq : ID → ID → Bool) where
 
   -- The last candidates are these targets, except for some at the end with a pending child each.
   -- `counts` has the in-degree of each known id, over the edges of pending nodes.
-  pub record AreToFollow (counts : ID → Option ℕ) (wanted found : List ID) : Type 0 where
+  pub record AreToFollow (counts : ID → Option ℕ) (required found : List ID) : Type 0 where
     pub older : List ID
     pub pending : List ID
     pub passed : List ID
     pub candidates : found ≡ older ++ pending
-    pub targets : AreSameIds wanted (pending ++ passed)
+    pub targets : AreSameIds required (pending ++ passed)
     pub known : list_all (λ i. is_some (counts i)) pending ≡ true
     pub blocked : list_all (λ i. is_positive (counts i)) passed ≡ true
 
--- more turns cannot come before a candidate is found
-abbrev pub reversals_left : {ID : Type 0} → Candidates ID → ℕ
-reversals_left s =
+-- an upper bound on the rounds of the loop of `take`
+abbrev pub rounds_left : {ID : Type 0} → Candidates ID → ℕ
+rounds_left s =
     (hash_map_len s.children + deque_len s.heads) * 2 ^ 66 + 2 * length s.ids.items + length
     s.blocked.items

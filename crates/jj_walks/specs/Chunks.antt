@@ -1,5 +1,5 @@
 -- Chunks of a topological order: some of the reachable nodes, and the starts of the remaining ones.
--- Cited by contracts of public items through LazySteps, NextChunk.
+-- Cited by contracts of public items: IsNextChunk.
 use Rattle.std.specs.Prelude.{◌≡◌, ◌↔◌, ◌⊎◌, ℕ, ◌≤◌, List, [], ◌∷◌, ◌++◌, length, eqb}
 use Rattle.std.specs.List.{Contains, IsDistinct}
 use Rattle.jj_dag.specs.Graph.{Graph, ReachedFrom, IsAcyclicFrom, StrictlyReaches, Precedes}
@@ -31,8 +31,8 @@ pub record IsNextChunk (g : Graph) (starts chunk left : List ℕ) : Type 0 where
 
 -- each edge of a node of the list leads to a later node of it, or to one that is left
 abbrev pub LeadsForward : Graph → List ℕ → List ℕ → Type 0
-LeadsForward g order left = (front back : List ℕ) (a b : ℕ) → order ≡ front ++ a ∷ back
-    → Contains (g a) b → Contains back b ⊎ Contains left b
+LeadsForward g order left = (prefix suffix : List ℕ) (a b : ℕ) → order ≡ prefix ++ a ∷ suffix
+    → Contains (g a) b → Contains suffix b ⊎ Contains left b
 
 -- each node of the list strictly reaches each one that is left
 abbrev pub AreAbove : Graph → List ℕ → List ℕ → Type 0
@@ -50,12 +50,12 @@ pub record IsChunkOfAnyGraph (g : Graph) (starts chunk left : List ℕ) : Type 0
 -- the nodes ordered so far are reachable from the starts, and a repeated one is on a cycle
 pub record IsOrderPrefix (g : Graph) (starts order : List ℕ) : Type 0 where
   pub reached : (a : ℕ) → Contains order a → ReachedFrom g starts a
-  pub repeated : (front back : List ℕ) (a : ℕ) → order ≡ front ++ a ∷ back → Contains front a
+  pub repeated : (prefix suffix : List ℕ) (a : ℕ) → order ≡ prefix ++ a ∷ suffix → Contains prefix a
       → StrictlyReaches g a a
 
 -- the order continues from the nodes left
 pub record ContinuesFrom (g : Graph) (starts order left : List ℕ) : Type 0 where
-  pub starts_met : (a : ℕ) → Contains starts a → Contains order a ⊎ Contains left a
+  pub starts_visited : (a : ℕ) → Contains starts a → Contains order a ⊎ Contains left a
   pub left_reached : (a : ℕ) → Contains left a → ReachedFrom g starts a
   pub forward : LeadsForward g order left
   pub above : AreAbove g order left

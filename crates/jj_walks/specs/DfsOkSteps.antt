@@ -1,11 +1,10 @@
 -- Steps of the iterator `DepthFirstOk`.
--- Cited by contracts of public items: Steps, StartsWalk, items_left.
+-- Cited by contracts of public items: StartsWalk, Steps, items_left.
 use Rattle.std.specs.Prelude.{◌≡◌, ℕ, ◌+◌, ◌*◌, ◌-◌, ◌^◌, Bool, List, [], ◌∷◌, ◌++◌, length, map, reverse, Option, Result, MatchOption, MatchResult, IfErr, IsNone}
 use Rattle.std.specs.declared.result.Result.TheVariants.{Ok, Err}
 use Rattle.std.specs.Iterator.{Count, IsFiniteIterable}
 use Rattle.std.specs.Fn.{Shared, Mut}
-use Rattle.std.specs.HashSet.{HashSet, contains, hash_set_len}
-use Rattle.std.specs.List.{Contains}
+use Rattle.std.specs.HashSet.{contains, hash_set_len}
 use Rattle.std.specs.declared.alloc.AllocError.{AllocError}
 use Rattle.std.specs.declared.iter.IntoIterator as into
 use Rattle.std.specs.declared.iter.Iterator as iter
@@ -14,13 +13,13 @@ use Rattle.jj_walks.specs.declared.depth_first.DepthFirstOk.{DepthFirstOk}
 use Rattle.jj_dag.specs.declared.walk_error.WalkError.{WalkError}
 use Rattle.jj_dag.specs.declared.walk_error.WalkError.TheVariants.{Memory, Node}
 use Rattle.jj_dag.specs.ClosureGraph.{IsWalkable}
-use Rattle.jj_dag.specs.Walk.{AreNodes, DrainsTo, Model}
+use Rattle.jj_dag.specs.Walk.{AreNodes, DrainsTo, GraphModel}
 use Rattle.jj_dag.specs.Errors.{IfMemory}
 use Rattle.jj_dag.specs.FallibleGraphs.{FallibleGraph, IsWalkingItems, ok_items}
 use Rattle.jj_walks.specs.Expansions.{Expansion, ExpansionsLead, HasItemsOf, ImplementsItems, IsRun, expansions_graph, item_of}
 
--- more items cannot come: a node puts one more id into a set of fewer than 2^63, and a failed item
--- leaves fewer to do
+-- an upper bound on the items to come: a node inserts an id into a set of fewer than 2^63, and a
+-- failed item is popped from the stack
 abbrev pub items_left : {T ID E F N : Type 0} → DepthFirstOk T ID E F N → ℕ
 items_left s = elim s.work.items [
   | [] ↦ 0
@@ -28,19 +27,19 @@ items_left s = elim s.work.items [
       ((2 ^ 63 - hash_set_len s.visited) * 2 ^ 63 + length xs)
 ]
 
--- nothing is left to do
+-- the stack is empty
 abbrev pub HasEnded : {T ID E F N : Type 0} → DepthFirstOk T ID E F N → Type 0
 HasEnded s = s.work.items ≡ []
 
 -- In the model, a search from these starts that expanded these nodes has yielded these items, and
 -- `work` is its stack. Whatever graph extends the items of the expanded nodes, the search continues
 -- the preorder of that graph.
-pub record IsWalkingExpansions {T ID E : Type 0} (g : Model T ID) (test : ID → Bool)
-    (expansions : List (Expansion T E)) (starts work given : List (Result T E)) : Type 0 where
-  pub has_answers : HasItemsOf g.node (expansions_graph g.node expansions) expansions
+pub record IsWalkingExpansions {T ID E : Type 0} (g : GraphModel T ID) (test : ID → Bool)
+    (expansions : List (Expansion T E)) (starts work yielded : List (Result T E)) : Type 0 where
+  pub has_items : HasItemsOf g.node (expansions_graph g.node expansions) expansions
   pub walking : (graph : FallibleGraph E) → HasItemsOf g.node graph expansions
       → IsWalkingItems g graph (map (item_of g.node) starts) test (map (item_of g.node) work)
-      (map (item_of g.node) given)
+      (map (item_of g.node) yielded)
 
 module _ {T ID E F N U S : Type 0} (ids : Shared F (Bor T × Unit {0}) (Result ID AllocError))
     (lists : Mut N (Bor T × Unit {0}) U) where
@@ -48,32 +47,32 @@ module _ {T ID E F N U S : Type 0} (ids : Shared F (Bor T × Unit {0}) (Result I
   -- yielded these items
   pub record IsLeftOf (eq : ID → ID → Bool)
       (becomes : U → S → Type 0) (steps : S → Option (Result T E) → S → Type 0)
-      (id_fn : F) (neighbors_fn : N) (starts given : List (Result T E))
+      (id_fn : F) (neighbors_fn : N) (starts yielded : List (Result T E))
       (s : DepthFirstOk T ID E F N) : Type 0 where
     pub same_ids : s.id_fn ≡ id_fn
     pub expansions : List (Expansion T E)
     pub in_turn : ExpansionsLead lists (DrainsTo becomes steps) neighbors_fn expansions
         s.neighbors_fn
-    pub expanded : reverse (map (λ x. x.node) expansions) ≡ ok_items given
-    pub walks : (g : Model T ID)
+    pub expanded : reverse (map (λ x. x.node) expansions) ≡ ok_items yielded
+    pub walks : (g : GraphModel T ID)
         → ImplementsItems g eq ids lists (DrainsTo becomes steps) id_fn neighbors_fn
         → AreNodes g (ok_items (map (item_of g.node) starts))
-        → IsWalkingExpansions g (contains eq s.visited) expansions starts s.work.items given
+        → IsWalkingExpansions g (contains eq s.visited) expansions starts s.work.items yielded
 
   -- the search yields one more item, or ends as a complete run, or runs out of memory and ends
   abbrev pub WalksOn : (ID → ID → Bool) → (U → S → Type 0) → (S → Option (Result T E) → S → Type 0)
       → DepthFirstOk T ID E F N → Option (Result T (WalkError E)) → DepthFirstOk T ID E F N → Type 0
   WalksOn eq becomes steps s r t =
-      (id_fn : F) (neighbors_fn : N) (starts given : List (Result T E))
-      → IsLeftOf eq becomes steps id_fn neighbors_fn starts given s →
-      MatchOption r (IsRun eq ids lists (DrainsTo becomes steps) id_fn neighbors_fn starts given
+      (id_fn : F) (neighbors_fn : N) (starts yielded : List (Result T E))
+      → IsLeftOf eq becomes steps id_fn neighbors_fn starts yielded s →
+      MatchOption r (IsRun eq ids lists (DrainsTo becomes steps) id_fn neighbors_fn starts yielded
       × (t.work.items ≡ []))
       (λ x. MatchResult x (λ node. IsLeftOf eq becomes steps id_fn neighbors_fn starts
-      (given ++ Ok node ∷ []) t)
+      (yielded ++ Ok node ∷ []) t)
       (λ refused. elim refused [
         | Memory ↦ t.work.items
             ≡ []
-        | Node e ↦ IsLeftOf eq becomes steps id_fn neighbors_fn starts (given ++ Err e ∷ []) t
+        | Node e ↦ IsLeftOf eq becomes steps id_fn neighbors_fn starts (yielded ++ Err e ∷ []) t
       ]))
 
   -- One call at s, which returned r and left t: the search goes on, `next` may be called again

@@ -9,35 +9,35 @@ use denote.Ref.{Bor}
 use Rattle.jj_walks.specs.declared.depth_first.DepthFirst.{DepthFirst}
 use Rattle.jj_dag.specs.Graph.{IsPreorder}
 use Rattle.jj_dag.specs.ClosureGraph.{Implements, IsWalkable}
-use Rattle.jj_dag.specs.Walk.{DrainsTo, IsWalking, Model}
+use Rattle.jj_dag.specs.Walk.{DrainsTo, IsWalking, GraphModel}
 
--- more items cannot come: an error ends the walk, and each other item puts one more id into a set
--- of fewer than 2^63
+-- an upper bound on the items to come: an error ends the walk, and each other item inserts an id
+-- into a set of fewer than 2^63
 abbrev pub items_left : {T ID F N : Type 0} → DepthFirst T ID F N → ℕ
 items_left s = elim s.work.items [ [] ↦ 0 | x ∷ xs ↦ 1 + (2 ^ 63 - hash_set_len s.visited) ]
 
--- nothing is left to do
+-- the stack is empty
 abbrev pub HasEnded : {T ID F N : Type 0} → DepthFirst T ID F N → Type 0
 HasEnded s = s.work.items ≡ []
 
 module _ {T ID F N U S : Type 0} (ids : Shared F (Bor T × Unit {0}) (Result ID AllocError))
     (lists : Mut N (Bor T × Unit {0}) U) where
   -- s is the state of a depth-first search from these starts that has yielded these nodes
-  pub record IsLeftOf (w : Model T ID) (eq : ID → ID → Bool) (becomes : U → S → Type 0)
-      (steps : S → Option T → S → Type 0) (starts : List ℕ) (given : List T)
+  pub record IsLeftOf (w : GraphModel T ID) (eq : ID → ID → Bool) (becomes : U → S → Type 0)
+      (steps : S → Option T → S → Type 0) (starts : List ℕ) (yielded : List T)
       (s : DepthFirst T ID F N) : Type 0 where
     pub implemented : Implements w eq ids lists (DrainsTo becomes steps) s.id_fn s.neighbors_fn
-    pub walking : IsWalking w starts (contains eq s.visited) s.work.items given
+    pub walking : IsWalking w starts (contains eq s.visited) s.work.items yielded
 
   -- the search yields one more node, or ends with the preorder of its starts, or runs out of memory
   -- and ends
   abbrev pub WalksOn : (ID → ID → Bool) → (U → S → Type 0) → (S → Option T → S → Type 0)
       → DepthFirst T ID F N → Option (Result T AllocError) → DepthFirst T ID F N → Type 0
   WalksOn eq becomes steps s r t =
-      (w : Model T ID) (starts : List ℕ) (given : List T)
-      → IsLeftOf w eq becomes steps starts given s →
-      MatchOption r (IsPreorder w.graph starts (map w.node given) × (t.work.items ≡ []))
-      (λ x. MatchResult x (λ node. IsLeftOf w eq becomes steps starts (given ++ node ∷ []) t)
+      (w : GraphModel T ID) (starts : List ℕ) (yielded : List T)
+      → IsLeftOf w eq becomes steps starts yielded s →
+      MatchOption r (IsPreorder w.graph starts (map w.node yielded) × (t.work.items ≡ []))
+      (λ x. MatchResult x (λ node. IsLeftOf w eq becomes steps starts (yielded ++ node ∷ []) t)
       (λ _. t.work.items ≡ []))
 
   -- One call at s, which returned r and left t: the search goes on, `next` may be called again

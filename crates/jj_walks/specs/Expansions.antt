@@ -1,5 +1,5 @@
 -- The graph of the item lists that one run of a search received, where items may fail.
--- Cited by contracts of public items: Expansion, ImplementsItems, IsRun, through DfsOkSteps.
+-- Cited by contracts of public items: IsRun.
 use Rattle.std.specs.Prelude.{◌≡◌, ℕ, ◌==◌, Bool, true, List, [], ◌∷◌, map, reverse, Result, if◌then◌else◌}
 use Rattle.std.specs.declared.result.Result.TheVariants.{Ok, Err}
 use Rattle.std.specs.Fn.{Shared, Mut, AlwaysReturns, CalledAt}
@@ -8,7 +8,7 @@ use Rattle.std.specs.declared.alloc.AllocError.{AllocError}
 use denote.Ref.{Bor}
 use Rattle.jj_dag.specs.ClosureGraph.{Implements, MayReturn}
 use Rattle.jj_dag.specs.FallibleGraphs.{FallibleGraph, IsFalliblePreorder, ok_items}
-use Rattle.jj_dag.specs.Walk.{AreNodes, Model}
+use Rattle.jj_dag.specs.Walk.{AreNodes, GraphModel}
 
 -- a node that the search expanded, and the items that `neighbors_fn` returned for it
 pub record Expansion (T E : Type 0) : Type 0 where
@@ -40,7 +40,7 @@ abbrev pub HasItemsOf : {T E : Type 0} → (T → ℕ) → FallibleGraph E → L
 HasItemsOf {T} {E} number graph expansions = (x : Expansion T E) → Contains expansions x
     → graph (number x.node) ≡ map (item_of number) x.items
 
-module _ {T ID E F N R : Type 0} (g : Model T ID) (eq : ID → ID → Bool)
+module _ {T ID E F N R : Type 0} (g : GraphModel T ID) (eq : ID → ID → Bool)
     (ids : Shared F (Bor T × Unit {0}) (Result ID AllocError)) (lists : Mut N (Bor T × Unit {0}) R)
     (yields : R → List (Result T E) → Type 0) where
   -- The closures implement the model, and each node that `neighbors_fn` lists beside failed items
@@ -61,14 +61,15 @@ module _ {T ID E F N R : Type 0} (eq : ID → ID → Bool)
   -- A complete search from these starts yielded these items: it expanded each node yielded once, in
   -- this order, and in each model the items yielded are the depth-first preorder of the graph of
   -- the items that `neighbors_fn` returned, errors included.
-  pub record IsRun (id_fn : F) (neighbors_fn : N) (starts given : List (Result T E)) : Type 0 where
+  pub record IsRun (id_fn : F) (neighbors_fn : N) (starts yielded : List (Result T E))
+      : Type 0 where
     pub expansions : List (Expansion T E)
     pub last : N
     pub in_turn : ExpansionsLead lists yields neighbors_fn expansions last
-    pub expanded : reverse (map (λ x. x.node) expansions) ≡ ok_items given
-    pub preorder : (g : Model T ID)
+    pub expanded : reverse (map (λ x. x.node) expansions) ≡ ok_items yielded
+    pub preorder : (g : GraphModel T ID)
         → ImplementsItems g eq ids lists yields id_fn neighbors_fn
         → AreNodes g (ok_items (map (item_of g.node) starts))
         → HasItemsOf g.node (expansions_graph g.node expansions) expansions
         × IsFalliblePreorder (expansions_graph g.node expansions) (map (item_of g.node) starts)
-        (map (item_of g.node) given)
+        (map (item_of g.node) yielded)

@@ -34,9 +34,9 @@ module _ {T ID E F N U J : Type 0} (eq : ID → ID → Bool)
   -- the explored nodes, with the ids of the neighbours of each, and at most one frontier node
   abbrev pub HasExplored : Closures F N → List T → IndexedGraph T ID × Vec T Global → Type 0
   HasExplored s starts r = (filled : IsFilled eq r.0)
-      × (filled.given ≡ [] → r.1.items ≡ []) × (length r.1.items ≤ 1)
+      × (filled.visited ≡ [] → r.1.items ≡ []) × (length r.1.items ≤ 1)
       × InModels eq ids lists value items s starts (λ walk nodes.
-      HasLooked walk (whole walk) nodes (get eq r.0.index_of) r.1.items filled.given
+      HasLooked walk (whole walk) nodes (get eq r.0.index_of) r.1.items filled.visited
       (map (λ v. v.items) r.0.neighbor_ids.items))
 
   pub record ExploresFrom (s t : Closures F N) (starts : List T)

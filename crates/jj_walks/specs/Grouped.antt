@@ -63,14 +63,16 @@ first_prioritized (Prioritized i ∷ event ∷ h) = first_prioritized (event ∷
 first_prioritized (Read e ∷ h) = first_prioritized h
 first_prioritized (Yielded e ∷ h) = first_prioritized h
 
--- by that many of these edges
-abbrev pub IsWay : {ID : Type 0} → (eq edge : ID → ID → Bool) → (from to : ID) → ℕ → Type 0
-IsWay eq edge from to zero = eq from to ≡ true
-IsWay {ID} eq edge from to (suc steps) = (i : ID) × (edge from i ≡ true) × IsWay eq edge i to steps
+-- a walk of that many of these edges
+abbrev pub IsIdWalkOfLength : {ID : Type 0} → (eq edge : ID → ID → Bool) → (from to : ID) → ℕ
+    → Type 0
+IsIdWalkOfLength eq edge from to zero = eq from to ≡ true
+IsIdWalkOfLength {ID} eq edge from to (suc steps) = (i : ID) × (edge from i ≡ true)
+    × IsIdWalkOfLength eq edge i to steps
 
 -- by zero or more of them
-abbrev pub Reaches : {ID : Type 0} → (eq edge : ID → ID → Bool) → (from to : ID) → Type 0
-Reaches eq edge from to = (steps : ℕ) × IsWay eq edge from to steps
+abbrev pub ReachesId : {ID : Type 0} → (eq edge : ID → ID → Bool) → (from to : ID) → Type 0
+ReachesId eq edge from to = (steps : ℕ) × IsIdWalkOfLength eq edge from to steps
 
 module _ {N ID : Type 0} (eq : ID → ID → Bool) where
   -- whether one of the nodes has the first id, and an edge to the second that is not missing
@@ -107,28 +109,28 @@ module _ {N ID : Type 0} (eq : ID → ID → Bool) where
   is_known h i = is_required h i || is_some (pending_at h i)
 
   -- the in-degree of the id over pending nodes
-  abbrev pub edges_to : History N ID → ID → ℕ
-  edges_to h i = sum_by (λ e. count_by (leads_to eq i) e.edges) (pending_nodes h)
+  abbrev pub pending_in_degree : History N ID → ID → ℕ
+  pending_in_degree h i = sum_by (λ e. count_by (leads_to eq i) e.edges) (pending_nodes h)
 
   -- whether the id is pending or required, and no pending node has an edge to it
   abbrev pub is_unblocked : History N ID → ID → Bool
-  is_unblocked h i = is_known h i && (edges_to h i == 0)
+  is_unblocked h i = is_known h i && (pending_in_degree h i == 0)
 
-  -- the last target of the node yielded last that is free
+  -- the last target of the node yielded last that is unblocked
   abbrev pub last_unblocked : History N ID → Option ID
   last_unblocked h = find (is_unblocked h) (reverse (targets_of (last_edges h)))
 
   -- the node may be yielded first: if nodes were read in topological order, and an id was
   -- prioritized first, the node reaches this id
   abbrev pub IsOfFirstBranch : History N ID → Entry N ID → Type 0
-  IsOfFirstBranch h e = AreReadChildFirst (read_nodes h) → (wanted : ID)
-      → first_prioritized h ≡ Some wanted → Reaches eq (has_edge (read_nodes h)) e.id wanted
+  IsOfFirstBranch h e = AreReadChildFirst (read_nodes h) → (required : ID)
+      → first_prioritized h ≡ Some required → ReachesId eq (has_edge (read_nodes h)) e.id required
 
-  -- the node may come next: it is pending, no pending node has an edge to it, it is the last free
-  -- target, if one is free, and may be yielded first, if it is the first
+  -- the node may come next: it is pending, no pending node has an edge to it, it is the last
+  -- unblocked target, if one is unblocked, and may be yielded first, if it is the first
   pub record IsNext (h : History N ID) (e : Entry N ID) : Type 0 where
     pub pending : pending_at h e.id ≡ Some e
-    pub childless : edges_to h e.id ≡ 0
+    pub childless : pending_in_degree h e.id ≡ 0
     pub follows : MatchOption (last_unblocked h) ⊤ (λ i. eq i e.id ≡ true)
     pub first : yielded_nodes h ≡ [] → IsOfFirstBranch h e
 

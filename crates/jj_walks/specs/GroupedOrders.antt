@@ -1,9 +1,9 @@
 -- A grouped order of the nodes of a list. Lists of nodes have the newest first.
--- Cited by contracts of public items through GroupedLaw.
+-- Cited by contracts of public items through GroupedLaw, store_walks.Histories.
 use Rattle.std.specs.Prelude.{◌≡◌, Bool, true, false, not, ◌||◌, List, [], ◌∷◌, reverse, find, Option, Some, MatchOption, ⊤}
 use Rattle.std.specs.List.{Contains, list_all, list_any}
 use Rattle.jj_walks.specs.declared.graph.GraphEdge.{GraphEdge}
-use Rattle.jj_walks.specs.Grouped.{AreReadChildFirst, Entry, Yielded, History, Prioritized, Reaches, Read, has_edge, leads_to, read_nodes, targets_of}
+use Rattle.jj_walks.specs.Grouped.{AreReadChildFirst, Entry, Yielded, History, Prioritized, ReachesId, Read, has_edge, leads_to, read_nodes, targets_of}
 
 -- the edges of the newest
 abbrev pub newest_edges : {N ID : Type 0} → List (Entry N ID) → List (GraphEdge ID)
@@ -48,28 +48,28 @@ module _ {N ID : Type 0} (eq : ID → ID → Bool) where
         → list_any (leads_to eq i) e.edges ≡ true → has_node nodes i ≡ true
 
   -- each of the nodes that has an edge to the id was yielded
-  abbrev pub is_ready : (nodes given : List (Entry N ID)) → ID → Bool
-  is_ready nodes given i =
-      list_all (λ e. not (list_any (leads_to eq i) e.edges) || has_node given e.id) nodes
+  abbrev pub is_ready : (nodes yielded : List (Entry N ID)) → ID → Bool
+  is_ready nodes yielded i =
+      list_all (λ e. not (list_any (leads_to eq i) e.edges) || has_node yielded e.id) nodes
 
   -- one of the nodes that was not yielded yet and is ready; it is the last target of the newest
   -- that is ready, if one is
-  pub record MayFollow (nodes given : List (Entry N ID)) (e : Entry N ID) : Type 0 where
+  pub record MayFollow (nodes yielded : List (Entry N ID)) (e : Entry N ID) : Type 0 where
     pub node : Contains nodes e
-    pub new : has_node given e.id ≡ false
-    pub ready : is_ready nodes given e.id ≡ true
+    pub new : has_node yielded e.id ≡ false
+    pub ready : is_ready nodes yielded e.id ≡ true
     pub follows : MatchOption
-        (find (is_ready nodes given) (reverse (targets_of (newest_edges given)))) ⊤
+        (find (is_ready nodes yielded) (reverse (targets_of (newest_edges yielded)))) ⊤
         (λ i. eq i e.id ≡ true)
 
-  abbrev pub AreGrouped : (nodes given : List (Entry N ID)) → Type 0
+  abbrev pub AreGrouped : (nodes yielded : List (Entry N ID)) → Type 0
   AreGrouped nodes [] = ⊤
   AreGrouped nodes (e ∷ older) = MayFollow nodes older e × AreGrouped nodes older
 
   -- all nodes, each as it may follow those before it, and the first reaches the prioritized id
-  pub record IsGroupedOrder (nodes : List (Entry N ID)) (wanted : Option ID)
-      (given : List (Entry N ID)) : Type 0 where
-    pub all : (e : Entry N ID) → Contains nodes e → Contains given e
-    pub grouped : AreGrouped nodes given
-    pub first : (e : Entry N ID) (i : ID) → IsOldest given e → wanted ≡ Some i
-        → Reaches eq (has_edge eq nodes) e.id i
+  pub record IsGroupedOrder (nodes : List (Entry N ID)) (required : Option ID)
+      (yielded : List (Entry N ID)) : Type 0 where
+    pub all : (e : Entry N ID) → Contains nodes e → Contains yielded e
+    pub grouped : AreGrouped nodes yielded
+    pub first : (e : Entry N ID) (i : ID) → IsOldest yielded e → required ≡ Some i
+        → ReachesId eq (has_edge eq nodes) e.id i

@@ -14,7 +14,7 @@ use Rattle.jj_walks.specs.declared.grouped.TopoGroupedGraph.{TopoGroupedGraph}
 use Rattle.jj_walks.specs.declared.grouped.GroupedNodes.{GroupedNodes}
 use Rattle.jj_walks.specs.declared.grouped.GroupedGraphError.{GroupedGraphError}
 use Rattle.jj_walks.specs.declared.grouped.GroupedGraphError.TheVariants.{Input, DuplicateId, MissingNode, NotChildFirst, Memory}
-use Rattle.jj_walks.specs.Grouped.{Entry, History, Read, Yielded, IsHistory, edges_to, pending_nodes, pending_at, is_required}
+use Rattle.jj_walks.specs.Grouped.{Entry, History, Read, Yielded, IsHistory, pending_in_degree, pending_nodes, pending_at, is_required}
 use Rattle.jj_walks.specs.PendingNodes.{Keeps, item_of, listed_item}
 
 -- these nodes were read after that history
@@ -23,10 +23,10 @@ read_on [] h = h
 read_on (e ∷ es) h = read_on es (Read e ∷ h)
 
 -- the item for the result of a step
-abbrev pub answer_of : {A E : Type 0} → Result (Option A) E → Option (Result A E)
-answer_of (Ok None) = None
-answer_of (Ok (Some x)) = Some (Ok x)
-answer_of (Err e) = Some (Err e)
+abbrev pub as_item : {A E : Type 0} → Result (Option A) E → Option (Result A E)
+as_item (Ok None) = None
+as_item (Ok (Some x)) = Some (Ok x)
+as_item (Err e) = Some (Err e)
 
 -- nothing comes after `None` or an error
 abbrev pub is_last : {A E : Type 0} → Option (Result A E) → Bool
@@ -62,7 +62,7 @@ module _ {N ID F : Type 0} (ids : Shared F (Bor N × Unit {0}) (Bor ID)) (eq : I
       -- the input yielded these items and is at t
       pub record ReadsTo (as_id : F) (s : S) (items : List (Item N ID)) (reads : List (Entry N ID))
           (t : S) : Type 0 where
-        pub given : Yields steps s (map Ok items) t
+        pub yielded : Yields steps s (map Ok items) t
         pub entries : AllZip (IsEntryOf as_id) items reads
 
       -- the cause of an error when the history is h and the input is at s
@@ -74,7 +74,7 @@ module _ {N ID F : Type 0} (ids : Shared F (Bor N × Unit {0}) (Bor ID)) (eq : I
       IsCause as_id h s MissingNode t = (i : ID) × steps s None t × (is_required eq h i ≡ true)
           × (pending_at eq h i ≡ None)
       IsCause as_id h s NotChildFirst t = steps s None t × (pending_nodes eq h ≡ [] → ⊥)
-          × ((i : ID) → is_some (pending_at eq h i) ≡ true → edges_to eq h i ≡ 0 → ⊥)
+          × ((i : ID) → is_some (pending_at eq h i) ≡ true → pending_in_degree eq h i ≡ 0 → ⊥)
       IsCause as_id h s Memory t = Unit {0}
 
       -- after the history h some nodes are read, and then: the input has ended, all nodes were

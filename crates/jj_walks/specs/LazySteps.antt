@@ -21,7 +21,7 @@ use Rattle.jj_dag.specs.ClosureGraph.{InEachModel, IsMadeBesideCycle, IsNeighbor
 use Rattle.jj_dag.specs.Errors.{IfNode}
 use Rattle.jj_dag.specs.Graph.{IsAcyclicFrom, IsTopologicalOrder}
 use Rattle.jj_walks.specs.GroupedSteps.{is_last}
-use Rattle.jj_dag.specs.Walk.{AreNodes, Model}
+use Rattle.jj_dag.specs.Walk.{AreNodes, GraphModel}
 
 -- an upper bound on the items to come: each node inserts an id into a set of fewer than 2^63, and
 -- an error ends the order
@@ -43,7 +43,7 @@ yielded_or_ready node yielded s = map node (yielded ++ reverse s.ready.items)
 
 -- In a model: each node was yielded once, these and the ready ones begin an order of the reachable
 -- nodes, and unless a list failed, it continues from the nodes that are left.
-pub record IsLeftIn {T ID E F N C : Type 0} (w : Model T ID) (eq : ID → ID → Bool)
+pub record IsLeftIn {T ID E F N C : Type 0} (w : GraphModel T ID) (eq : ID → ID → Bool)
     (starts : List ℕ) (yielded : List T) (s : LazyOrder T ID E F N C) : Type 0 where
   pub knows : (i : ID) → w.is_node (w.id i) ≡ true
       → contains eq s.emitted i ≡ list_any (λ a. w.id i == a) (map w.node yielded)
@@ -64,7 +64,7 @@ module _ {T ID E F N C U J : Type 0} (eq : ID → ID → Bool)
     pub cycle_fn : s.cycle_fn ≡ on_cycle
     pub failed : (error : E) → s.failed ≡ Some error → IsNeighborsError
         (graph_at eq ids lists value items id_fn neighbors_fn) (list_of_nodes starts) error
-    pub models : (w : Model T ID)
+    pub models : (w : GraphModel T ID)
         → (graph_at eq ids lists value items id_fn neighbors_fn).implements w
         → AreNodes w (map w.node starts) → IsLeftIn w eq (map w.node starts) yielded s
 
@@ -91,7 +91,7 @@ module _ {T ID E F N C U J : Type 0} (eq : ID → ID → Bool)
     Refills s t = (id_fn : F) (neighbors_fn : N) (on_cycle : C) (starts yielded : List T)
         → IsLeftOf id_fn neighbors_fn on_cycle starts yielded s
         → IsLeftOf id_fn neighbors_fn on_cycle starts yielded t
-        × ((w : Model T ID)
+        × ((w : GraphModel T ID)
         → (graph_at eq ids lists value items id_fn neighbors_fn).implements w
         → AreNodes w (map w.node starts) → t.ready.items ≡ [] → IsExhausted t)
 

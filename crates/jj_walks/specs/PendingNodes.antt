@@ -1,5 +1,5 @@
 -- The pending nodes of a grouped graph represent its history.
--- Cited by contracts of public items: Adds, Keeps, KeepsOn.
+-- Cited by contracts of public items: Adds, Keeps, KeepsOn, listed_item.
 use Rattle.std.specs.Prelude.{◌≡◌, ◌+◌, ℕ, Bool, true, List, ◌∷◌, is_some, Option, None}
 use Rattle.std.specs.Option.{option_map}
 use Rattle.std.specs.HashMap.{get}
@@ -12,10 +12,10 @@ use Rattle.jj_walks.specs.declared.pending_nodes.Ready.{Ready}
 use Rattle.jj_walks.specs.declared.pending_nodes.Ready.TheVariants.{Node, Unread, Nothing}
 use Rattle.jj_walks.specs.Candidates.{AreToFollow, count_of, is_listed, is_zero}
 use Rattle.jj_walks.specs.Branches.{KeepsBranch}
-use Rattle.jj_walks.specs.Grouped.{Entry, Event, History, Yielded, IsHistory, edges_to, pending_at, is_known, is_required, last_edges, targets_of}
+use Rattle.jj_walks.specs.Grouped.{Entry, Event, History, Yielded, IsHistory, pending_in_degree, pending_at, is_known, is_required, last_edges, targets_of}
 
 module _ {N ID : Type 0} where
-  -- a node with its edges
+  -- the node with its edges
   abbrev pub item_of : Entry N ID → N × List (GraphEdge ID)
   item_of e = (e.node, e.edges)
 
@@ -27,10 +27,10 @@ module _ {N ID : Type 0} where
     -- known id over pending nodes, and lists that contain each known id without a pending child.
     pub record KeepsHistory (h : History N ID) (node_at : ID → Option (N × List (GraphEdge ID)))
         (count : ID → Option ℕ) (candidates heads : List ID) : Type 0 where
-      pub told : IsHistory eq h
+      pub is_history : IsHistory eq h
       pub nodes : (i : ID) → node_at i ≡ option_map item_of (pending_at eq h i)
       pub known : (i : ID) → is_some (count i) ≡ is_known eq h i
-      pub counts : (i : ID) → count_of (count i) ≡ edges_to eq h i
+      pub counts : (i : ID) → count_of (count i) ≡ pending_in_degree eq h i
       pub listed : (i : ID) → is_zero (count i) ≡ true → is_listed eq candidates heads i ≡ true
       pub follows : AreToFollow eq count (targets_of (last_edges h)) candidates
 
@@ -53,8 +53,8 @@ module _ {N ID : Type 0} where
         × Keeps (Yielded e ∷ h) t
     TakesNext h Unread t = Keeps h t × ((i : ID) × (is_required eq h i ≡ true)
         × (pending_at eq h i ≡ None))
-    TakesNext h Nothing t = Keeps h t × ((i : ID) → is_known eq h i ≡ true → edges_to eq h i ≡ 0
-        → ⊥)
+    TakesNext h Nothing t = Keeps h t × ((i : ID) → is_known eq h i ≡ true
+        → pending_in_degree eq h i ≡ 0 → ⊥)
 
 -- one node fewer is pending
 abbrev pub len_after : {N ID : Type 0} → Ready N ID → ℕ → ℕ

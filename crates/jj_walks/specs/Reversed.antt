@@ -6,13 +6,13 @@ use Rattle.std.specs.Global.{Global}
 use Rattle.std.specs.declared.vec.Vec.{Vec}
 use Rattle.jj_walks.specs.declared.graph.GraphEdge.{GraphEdge}
 
--- each node with its edges
-abbrev pub ShownGraph : Type 0 → Type 0 → Type 0
-ShownGraph N ID = List (N × List (GraphEdge ID))
+-- a graph as a list of nodes, each with its edges
+abbrev pub EdgeLists : Type 0 → Type 0 → Type 0
+EdgeLists N ID = List (N × List (GraphEdge ID))
 
 -- the graph of these nodes
-abbrev pub shown_graph : {N ID : Type 0} → List (N × Vec (GraphEdge ID) Global) → ShownGraph N ID
-shown_graph {N} {ID} nodes = map {B = N × List (GraphEdge ID)}
+abbrev pub edge_lists : {N ID : Type 0} → List (N × Vec (GraphEdge ID) Global) → EdgeLists N ID
+edge_lists {N} {ID} nodes = map {B = N × List (GraphEdge ID)}
     (λ entry. (entry.0, entry.1.items)) nodes
 
 -- the edge of the same type to this node
@@ -25,14 +25,14 @@ module _ {N ID : Type 0} (eq : ID → ID → Bool) where
   reversed_edges i node edges = map (edge_to node) (filter (λ edge. eq edge.target i) edges)
 
   -- the edges of all nodes that lead to i, in the order of the nodes
-  abbrev pub incoming_edges : ID → ShownGraph N ID → List (GraphEdge N)
+  abbrev pub incoming_edges : ID → EdgeLists N ID → List (GraphEdge N)
   incoming_edges i [] = []
   incoming_edges i (entry ∷ graph) = reversed_edges i entry.0 entry.1 ++ incoming_edges i graph
 
   module _ (id : N → ID) where
     -- each of the nodes with the edges that lead to it, which a node has only where no later one
     -- has its id
-    abbrev pub with_incoming : ShownGraph N ID → List N → ShownGraph N N
+    abbrev pub with_incoming : EdgeLists N ID → List N → EdgeLists N N
     with_incoming graph [] = []
     with_incoming graph (node ∷ later) = (
       node,
@@ -41,15 +41,16 @@ module _ {N ID : Type 0} (eq : ID → ID → Bool) where
     ) ∷ with_incoming graph later
 
     -- the nodes from the last to the first
-    abbrev pub reversed_graph : ShownGraph N ID → ShownGraph N N
+    abbrev pub reversed_graph : EdgeLists N ID → EdgeLists N N
     reversed_graph graph = reverse (with_incoming graph (map (λ entry. entry.0) graph))
 
 module _ {N ID : Type 0} (clone : ID → ID → Type 0) (id : N → ID) where
   -- an edge of the same type to a clone of the node's id
   abbrev pub LeadsToId : GraphEdge N → GraphEdge ID → Type 0
-  LeadsToId edge given = clone (id edge.target) given.target × (given.edge_type ≡ edge.edge_type)
+  LeadsToId edge returned = clone (id edge.target) returned.target
+      × (returned.edge_type ≡ edge.edge_type)
 
   -- each node with such edges instead of those to nodes
-  abbrev pub ShowsById : ShownGraph N N → ShownGraph N ID → Type 0
-  ShowsById graph given = AllZip (λ want got. (got.0 ≡ want.0)
-      × AllZip LeadsToId want.1 got.1) graph given
+  abbrev pub HasEdgesById : EdgeLists N N → EdgeLists N ID → Type 0
+  HasEdgesById graph returned = AllZip (λ expected actual. (actual.0 ≡ expected.0)
+      × AllZip LeadsToId expected.1 actual.1) graph returned

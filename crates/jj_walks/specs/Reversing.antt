@@ -1,5 +1,5 @@
 -- The result and the error of `reverse_graph` in terms of its input.
--- Cited by contracts of public items: ReturnsReversed, InputFails.
+-- Cited by contracts of public items: InputFails, ReturnsReversed.
 use Rattle.std.specs.Prelude.{◌≡◌, Bool, List, [], ◌∷◌, ◌++◌, map, Option, Result}
 use Rattle.std.specs.declared.result.Result.TheVariants.{Ok, Err}
 use Rattle.std.specs.Fn.{Shared, FnReturnsAt}
@@ -8,7 +8,7 @@ use Rattle.std.specs.Iterator.{Drains, Yields}
 use Rattle.std.specs.declared.vec.Vec.{Vec}
 use denote.Ref.{Bor}
 use Rattle.jj_walks.specs.declared.graph.GraphEdge.{GraphEdge}
-use Rattle.jj_walks.specs.Reversed.{ShowsById, reversed_graph, shown_graph}
+use Rattle.jj_walks.specs.Reversed.{HasEdgesById, reversed_graph, edge_lists}
 
 -- a node with its edges, as the input yields it
 abbrev pub GraphNode : Type 0 → Type 0 → Type 0
@@ -22,7 +22,7 @@ abbrev pub ReturnsReversed : {N ID E I F : Type 0} → Shared F (Bor N × Unit {
 ReturnsReversed {N} {ID} ids steps clone eq input as_id v = (nodes : List (GraphNode N ID))
     × Drains steps input (map Ok nodes)
     × ((id : N → ID) → ((x : N) (r : Bor ID) → FnReturnsAt ids as_id x r → r.now ≡ id x)
-    → ShowsById clone id (reversed_graph eq id (shown_graph nodes)) (shown_graph v.items))
+    → HasEdgesById clone id (reversed_graph eq id (edge_lists nodes)) (edge_lists v.items))
 
 -- the input yielded nodes and then this error
 abbrev pub InputFails : {N ID E I : Type 0} → (I → Option (Result (GraphNode N ID) E) → I → Type 0)

@@ -4,7 +4,7 @@ ghost use Rattle.std.specs.List.{list_any};
 ghost use Rattle.std.specs.HashMap.{get};
 ghost use Rattle.std.specs.VecDeque.{deque_items};
 ghost use Rattle.jj_walks.specs.Branches.{AreCounts, Climbs, IsFirstBranch, IsUntaken, TakesHead, Unblocks, has_child};
-ghost use Rattle.jj_walks.specs.Candidates.{AreSameIds, AreToFollow, has_id, is_listed, is_zero, reversals_left};
+ghost use Rattle.jj_walks.specs.Candidates.{AreSameIds, AreToFollow, has_id, is_listed, is_zero, rounds_left};
 ghost use Rattle.jj_walks.specs.Grouped.{leads_to, targets_of};
 
 use crate::graph::GraphEdge;
@@ -27,7 +27,7 @@ pub struct Candidates<ID: Hash + Eq> {
 }
 
 impl<ID: Hash + Eq + Clone + Drop> Candidates<ID> {
-    /// Creates an empty set of candidates.
+    /// Creates an empty collection.
     pub fn new(alloc: Global) -> Self
         ensures ids { result.ids.items ≡ [] }
         ensures heads { deque_items result.heads ≡ [] }
@@ -41,7 +41,7 @@ impl<ID: Hash + Eq + Clone + Drop> Candidates<ID> {
         }
     }
 
-    /// Appends a candidate.
+    /// Appends a candidate. Fails if memory runs out.
     pub fn push(&mut self, id: ID) -> Result<(), AllocError>
         ensures ids { OnOk result (self.new.ids.items ≡ self.old.ids.items ++ id ∷ []) }
         ensures heads { self.new.heads ≡ self.old.heads }
@@ -52,7 +52,7 @@ impl<ID: Hash + Eq + Clone + Drop> Candidates<ID> {
         Ok(())
     }
 
-    /// Appends a head.
+    /// Appends a head. Fails if memory runs out.
     pub fn push_head(&mut self, id: ID) -> Result<(), AllocError>
         ensures ids { self.new.ids ≡ self.old.ids }
         ensures heads { OnOk result (deque_items self.new.heads ≡ deque_items self.old.heads
@@ -76,7 +76,7 @@ impl<ID: Hash + Eq + Clone + Drop> Candidates<ID> {
         self.heads.pop_back();
     }
 
-    /// Makes the targets of a yielded node candidates.
+    /// Appends the targets of a yielded node to the candidates. Fails if memory runs out.
     pub fn push_targets(&mut self, edges: &[GraphEdge<ID>]) -> Result<(), AllocError>
         requires clones { (i j : ID) → ID.is_clone i j → IsTrue (ID.eq i j) }
         ensures ids { OnOk result ((more : List ID)
@@ -92,7 +92,7 @@ impl<ID: Hash + Eq + Clone + Drop> Candidates<ID> {
         Ok(())
     }
 
-    /// Records the node as a child of the targets of its edges.
+    /// Adds the node to the children of the targets of its edges. Fails if memory runs out.
     pub fn remember(&mut self, id: &ID, edges: &[GraphEdge<ID>]) -> Result<(), AllocError>
         requires clones { (i j : ID) → ID.is_clone i j → IsTrue (ID.eq i j) }
         ensures ids { self.new.ids ≡ self.old.ids }
@@ -110,7 +110,8 @@ impl<ID: Hash + Eq + Clone + Drop> Candidates<ID> {
         Ok(())
     }
 
-    /// Removes the last candidate whose in-degree is 0. Ids without an in-degree are dropped.
+    /// Removes and returns the last candidate whose in-degree is 0. Drops ids without an in-degree.
+    /// Fails if memory runs out.
     pub fn take(&mut self, counts: &HashMap<ID, usize>) -> Result<Option<ID>, AllocError>
         ensures taken { IfOk result (λ o. MatchOption o
             ((self.new.ids.items ≡ []) × (deque_items self.new.heads ≡ []))
@@ -125,10 +126,10 @@ impl<ID: Hash + Eq + Clone + Drop> Candidates<ID> {
             (self.new.ids.items ++ option_to_list o)) }
         ensures begun { IfOk result (λ o. IsUntaken ID.eq (λ _ _. false) [] self.old
             → (o ≡ None) × IsUntaken ID.eq (λ _ _. false) [] self.new) }
-        ensures branch { IfOk result (λ o. (edge : ID → ID → Bool) (wanted : ID)
-            → AreCounts ID.eq edge (get ID.eq counts.now) wanted
-            → IsFirstBranch ID.eq edge wanted self.old
-            → IsSome o × Climbs ID.eq edge wanted (self.new.ids.items ++ option_to_list o)
+        ensures branch { IfOk result (λ o. (edge : ID → ID → Bool) (required : ID)
+            → AreCounts ID.eq edge (get ID.eq counts.now) required
+            → IsFirstBranch ID.eq edge required self.old
+            → IsSome o × Climbs ID.eq edge required (self.new.ids.items ++ option_to_list o)
             self.new.blocked.items (has_child ID.eq self.new.children)) }
     {
         'turns: loop {
@@ -154,7 +155,7 @@ impl<ID: Hash + Eq + Clone + Drop> Candidates<ID> {
             → has_id ID.eq (deque_items self.old.heads) i ≡ true
             → is_listed ID.eq self.new.ids.items (deque_items self.new.heads) i ≡ true) }
         ensures falls { IfOk result (λ more. more ≡ true
-            → reversals_left self.new < reversals_left self.old) }
+            → rounds_left self.new < rounds_left self.old) }
         ensures more { IfOk result (λ more. more ≡ true
             → Unblocks ID.eq self.old self.new ⊎ TakesHead ID.eq self.old self.new) }
         ensures none { IfOk result (λ more. more ≡ false → (self.new.ids.items ≡ [])

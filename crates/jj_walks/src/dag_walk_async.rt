@@ -1,5 +1,5 @@
-//! Walks over items that may fail, under the names that callers of asynchronous graphs know. They
-//! are plain functions.
+//! Walks over items that may fail, under the names of the asynchronous walks. They are not
+//! asynchronous.
 pub use crate::depth_first::{DepthFirstOk, dfs_ok as dfs};
 pub use crate::topo_order_chunked::topo_order_reverse_chunked;
 pub use crate::topo_order_lazy::{TopoOrderReverseLazy, topo_order_reverse_lazy};

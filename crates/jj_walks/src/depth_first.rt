@@ -62,8 +62,9 @@ where
 }
 
 /// Returns an iterator over the nodes that `start` reaches, in depth-first preorder; later starts
-/// and later neighbours come first. The iterator ends when memory runs out. Fails if memory runs
-/// out while the starts are collected.
+/// and later neighbours come first. An error of the iterator is that memory ran out, and its last
+/// item. Takes `O(n + e)` in all for n nodes and e edges. Fails if memory runs out while the starts
+/// are collected.
 pub fn dfs<T: Drop, ID: Hash + Eq + Drop, II, NI, F, N>(
     alloc: Global,
     start: II,
@@ -136,8 +137,9 @@ where
     }
 }
 
-/// Returns an iterator like `dfs` over items that may fail. It yields a failed item as `Node` and
-/// goes on; `Memory` is its last item. Fails if memory runs out while the starts are collected.
+/// Returns an iterator like `dfs` over items that may fail. It yields a failed item as `Node` of
+/// its error and goes on; `Memory`, that memory ran out, is its last item. Fails if memory runs out
+/// while the starts are collected.
 pub fn dfs_ok<T: Drop, ID: Hash + Eq + Drop, E: Drop, II, NI, F, N>(
     alloc: Global,
     start: II,

@@ -1,14 +1,14 @@
-//! The end of an iterator: its first `None` or error.
+//! Fused iterators: the first `None` or error is the end.
 ghost use Rattle.std.specs.Prelude.{◌≡◌, false};
-ghost use Rattle.jj_walks.specs.GroupedSteps.{answer_of, is_last};
+ghost use Rattle.jj_walks.specs.GroupedSteps.{as_item, is_last};
 
-/// Returns the item for the result of a step, and sets the flag if the iterator ends with it.
-pub fn item_or_end<T, E>(answer: Result<Option<T>, E>, has_ended: &mut bool) -> Option<Result<T, E>>
+/// Returns the item of the result of a step, and sets the flag if the iterator ends with it.
+pub fn item_or_end<T, E>(step: Result<Option<T>, E>, has_ended: &mut bool) -> Option<Result<T, E>>
     requires { has_ended.old ≡ false }
-    ensures item { result ≡ answer_of answer }
+    ensures item { result ≡ as_item step }
     ensures end { has_ended.new ≡ is_last result }
 {
-    match answer {
+    match step {
         Ok(Some(item)) => Some(Ok(item)),
         Ok(None) => {
             *has_ended = true;

@@ -1,4 +1,4 @@
-//! The graph of a log: nodes with edges to ids.
+//! The graph of a log as adjacency lists: nodes with edges to ids.
 ghost use Rattle.std.specs.Prelude.{◌≡◌, ◌↔◌, IsTrue};
 
 pub use crate::grouped::{GroupedGraphError, GroupedNodes, TopoGroupedGraph};
@@ -60,7 +60,7 @@ impl<N> GraphEdge<N> {
         }
     }
 
-    /// Applies `f` to the target and keeps the type of the edge.
+    /// Returns the edge with `f` of its target, and of the same type.
     pub fn map<M, F: FnOnce(N) -> M>(self, f: F) -> GraphEdge<M>
         requires { F.pre f self.target }
         ensures target { F.post f self.target result.target }

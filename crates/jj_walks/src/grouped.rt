@@ -1,9 +1,10 @@
-//! A topological order, children first, that groups branches: the last ready target comes next.
+//! Grouped topological order, children first: Kahn's algorithm with a stack, so that the last ready
+//! target comes next and branches stay together.
 ghost use Rattle.std.specs.Prelude.{◌≡◌, ◌+◌, ◌<◌, ◌∷◌, [], None, Some, Ok, IfOk, IfErr, IsSome, IsTrue, OnOk, OnErr, true, false};
 ghost use Rattle.std.specs.HashMap.{hash_map_len};
 ghost use Rattle.std.specs.Iterator.{at_most, size};
 ghost use Rattle.jj_walks.specs.Grouped.{Entry, History, Prioritized, Read};
-ghost use Rattle.jj_walks.specs.GroupedSteps.{CanRead, ReturnsNext, IsCause, IsEntryOf, Item, answer_of};
+ghost use Rattle.jj_walks.specs.GroupedSteps.{CanRead, ReturnsNext, IsCause, IsEntryOf, Item, as_item};
 ghost use Rattle.jj_walks.specs.PendingNodes.{Adds, Keeps, KeepsOn};
 ghost use Rattle.jj_walks.specs.declared.grouped.GroupedGraphError.{GroupedGraphError};
 
@@ -28,10 +29,12 @@ pub enum GroupedGraphError<E> {
     MissingNode,
     /// The input is not in topological order: each pending node has a pending child.
     NotChildFirst,
+    /// Memory ran out.
     Memory,
 }
 
-/// A graph of an input in topological order, children first, that yields branches one by one.
+/// A graph of an input in topological order, children first, that yields branches one by one. Reads
+/// a node of the input only when no pending node is ready.
 #[derive(Debug, Clone, Drop)]
 pub struct TopoGroupedGraph<N, ID: Hash + Eq, S, F> {
     input: S,
@@ -96,7 +99,7 @@ where
             → size (S.remaining self.new.input) + hash_map_len self.new.pending.nodes < size
             (S.remaining self.old.input) + hash_map_len self.old.pending.nodes) }
         ensures next { (h : History N ID) → Keeps ID.eq h self.old.pending
-            → ReturnsNext F.Fn ID.eq S.next_gives h self.old (answer_of result) self.new }
+            → ReturnsNext F.Fn ID.eq S.next_gives h self.old (as_item result) self.new }
     {
         'reading: loop {
             let is_unread = match self.pending.pop_ready()? {
@@ -114,7 +117,7 @@ where
         }
     }
 
-    // Returns whether the input yielded another node.
+    // Reads a node of the input. Returns `false` if the input has ended.
     fn read_next(&mut self) -> Result<bool, GroupedGraphError<E>>
         requires { CanRead F.Fn ID.eq ID.is_clone S.can_next S.remaining self.old }
         ensures as_id { self.new.as_id ≡ self.old.as_id }

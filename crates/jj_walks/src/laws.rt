@@ -1,7 +1,7 @@
 //! Laws of walks. Each function does nothing, and its contract is the law.
 //!
 //! The laws of `dag_walk` and `dag_walk_async` are about closures that define one graph and do not
-//! fail. Each takes the clauses of a call, and says the result in plain words of graphs.
+//! fail. Each has the clauses of a call as premises, and states the result in terms of graphs.
 ghost use Rattle.std.specs.Prelude.{List, Result};
 ghost use Rattle.std.specs.Global.{Global};
 ghost use Rattle.std.specs.HashSet.{HashSet};
@@ -9,14 +9,16 @@ ghost use Rattle.std.specs.declared.vec.Vec.{Vec};
 ghost use Rattle.smallvec.specs.SmallVec.{SmallVec};
 ghost use Rattle.jj_dag.specs.ClosureGraph.{graph_of, graph_of_items, graph_of_lists, list_of, list_of_items};
 ghost use Rattle.jj_dag.specs.declared.walk_error.WalkError.{WalkError};
-ghost use Rattle.jj_walks.specs.GraphLaws.{ChunkIsNext, ClosestAreMaximal, HeadsAreMaximal, OrderIsGreatest, OrderIsTopological, YieldsPreorder, YieldsTopologicalOrder};
+ghost use Rattle.jj_walks.specs.GraphLaws.{ChunkIsNext, ClosestAreMaximal, HeadsAreMaximal, OkOrderIsTopological, OkReverseIsTopological, OrderIsGreatest, OrderIsTopological, PlainHeadsAreMaximal, ReverseIsTopological, YieldsOkPreorder, YieldsPreorder, YieldsTopologicalOrder};
 ghost use Rattle.jj_walks.specs.declared.depth_first.DepthFirst.{DepthFirst};
+ghost use Rattle.jj_walks.specs.declared.depth_first.DepthFirstOk.{DepthFirstOk};
 ghost use Rattle.jj_walks.specs.declared.topo_order_lazy.TopoOrderReverseLazy.{TopoOrderReverseLazy};
 ghost use Rattle.jj_walks.specs.GroupedLaw.{FailsForCause, YieldsGroupedOrders};
 ghost use Rattle.jj_walks.specs.NodeLists.{list_of_nodes};
 
 use crate::graph::GraphNode;
 use std::alloc::AllocError;
+use std::convert::Infallible;
 use std::hash::Hash;
 
 /// Over an acyclic graph `topo_order_reverse_ord` returns the lexicographically greatest
@@ -49,8 +51,81 @@ where
         (list_of II.IntoIterator II.IntoIter.Iterator start) (C.post cycle_fn) result }
 {}
 
-/// Over an acyclic graph `heads` returns exactly the starts that no other start reaches, each once,
-/// or fails out of memory. `S` is the hasher of the set.
+/// Over an acyclic graph `topo_order_reverse` returns a topological order of the nodes that the
+/// starts reach, or fails out of memory.
+pub fn topo_order_reverse_is_topological<T, ID: Hash + Eq, E, II, NI, F, N, C>()
+where
+    II: IntoIterator<Item = T>,
+    NI: IntoIterator<Item = T>,
+    F: Fn(&T) -> Result<ID, AllocError>,
+    N: FnMut(&T) -> NI,
+    C: FnOnce(T) -> E,
+    ensures { (start : II) (id_fn : F) (neighbors_fn : N) (cycle_fn : C)
+        (result : Result (Vec T Global) (WalkError E)) → ReverseIsTopological {E = E}
+        (graph_of ID.eq F.Fn N.FnMut NI.IntoIterator NI.IntoIter.Iterator id_fn neighbors_fn)
+        (list_of II.IntoIterator II.IntoIter.Iterator start) (C.post cycle_fn) result }
+{}
+
+/// Over an acyclic graph of which no node fails `topo_order_forward_ok` returns the reverse of a
+/// topological order of the nodes that the starts reach, or fails out of memory.
+pub fn topo_order_forward_ok_is_topological<T, ID: Hash + Eq, E, II, NI, F, N, C>()
+where
+    II: IntoIterator<Item = Result<T, E>>,
+    NI: IntoIterator<Item = Result<T, E>>,
+    F: Fn(&T) -> Result<ID, AllocError>,
+    N: FnMut(&T) -> NI,
+    C: FnOnce(T) -> E,
+    ensures { (start : II) (id_fn : F) (neighbors_fn : N) (cycle_fn : C)
+        (result : Result (Vec T Global) (WalkError E)) → OkOrderIsTopological
+        (graph_of_items ID.eq F.Fn N.FnMut NI.IntoIterator NI.IntoIter.Iterator id_fn neighbors_fn)
+        (list_of_items II.IntoIterator II.IntoIter.Iterator start) (C.post cycle_fn) result }
+{}
+
+/// Over an acyclic graph of which no node fails `topo_order_reverse_ok` returns a topological order
+/// of the nodes that the starts reach, or fails out of memory.
+pub fn topo_order_reverse_ok_is_topological<T, ID: Hash + Eq, E, II, NI, F, N, C>()
+where
+    II: IntoIterator<Item = Result<T, E>>,
+    NI: IntoIterator<Item = Result<T, E>>,
+    F: Fn(&T) -> Result<ID, AllocError>,
+    N: FnMut(&T) -> NI,
+    C: FnOnce(T) -> E,
+    ensures { (start : II) (id_fn : F) (neighbors_fn : N) (cycle_fn : C)
+        (result : Result (Vec T Global) (WalkError E)) → OkReverseIsTopological
+        (graph_of_items ID.eq F.Fn N.FnMut NI.IntoIterator NI.IntoIter.Iterator id_fn neighbors_fn)
+        (list_of_items II.IntoIterator II.IntoIter.Iterator start) (C.post cycle_fn) result }
+{}
+
+/// Over an acyclic graph `heads` of `dag_walk` returns exactly the starts that no other start
+/// reaches, each once, or fails out of memory. `S` is the hasher of the set.
+pub fn plain_heads_are_maximal<T: Hash + Eq, ID: Hash + Eq, S, II, NI, F, N>()
+where
+    II: IntoIterator<Item = T>,
+    NI: IntoIterator<Item = T>,
+    F: Fn(&T) -> Result<ID, AllocError>,
+    N: FnMut(&T) -> NI,
+    ensures { (start : II) (id_fn : F) (neighbors_fn : N)
+        (result : Result (HashSet T S) AllocError) → PlainHeadsAreMaximal {E = Infallible}
+        (graph_of ID.eq F.Fn N.FnMut NI.IntoIterator NI.IntoIter.Iterator id_fn neighbors_fn)
+        (list_of II.IntoIterator II.IntoIter.Iterator start) T.eq result }
+{}
+
+/// Over an acyclic graph of which no node fails `heads_ok` returns exactly the starts that no other
+/// start reaches, each once, or fails out of memory. `S` is the hasher of the set.
+pub fn heads_ok_are_maximal<T: Hash + Eq, ID: Hash + Eq, E, S, II, NI, F, N>()
+where
+    II: IntoIterator<Item = Result<T, E>>,
+    NI: IntoIterator<Item = Result<T, E>>,
+    F: Fn(&T) -> Result<ID, AllocError>,
+    N: FnMut(&T) -> NI,
+    ensures { (start : II) (id_fn : F) (neighbors_fn : N)
+        (result : Result (HashSet T S) (WalkError E)) → HeadsAreMaximal
+        (graph_of_items ID.eq F.Fn N.FnMut NI.IntoIterator NI.IntoIter.Iterator id_fn neighbors_fn)
+        (list_of_items II.IntoIterator II.IntoIter.Iterator start) T.eq result }
+{}
+
+/// Over an acyclic graph `heads` of `dag_walk_async` returns exactly the starts that no other start
+/// reaches, each once, or fails out of memory. `S` is the hasher of the set.
 pub fn heads_are_maximal<T: Hash + Eq, ID: Hash + Eq, E, S, II, NI, F, N>()
 where
     II: IntoIterator<Item = T>,
@@ -106,6 +181,20 @@ where
         NI.IntoIter.next_gives NI.IntoIter.can_next NI.IntoIter.remaining
         (graph_of ID.eq F.Fn N.FnMut NI.IntoIterator NI.IntoIter.Iterator id_fn neighbors_fn)
         (list_of II.IntoIterator II.IntoIter.Iterator start) it yielded }
+{}
+
+/// Each complete run of `dfs_ok` without an error yields the depth-first preorder of the nodes that
+/// the starts reach.
+pub fn dfs_ok_yields_preorder<T, ID: Hash + Eq, E, II, NI, F, N>()
+where
+    II: IntoIterator<Item = Result<T, E>>,
+    NI: IntoIterator<Item = Result<T, E>>,
+    F: Fn(&T) -> Result<ID, AllocError>,
+    N: FnMut(&T) -> NI,
+    ensures { (start : II) (id_fn : F) (neighbors_fn : N) (it : DepthFirstOk T ID E F N)
+        (yielded : List T) → YieldsOkPreorder F.Fn N.FnMut ID.eq NI.into_iter_gives
+        NI.IntoIter.next_gives NI.IntoIter.can_next NI.IntoIter.remaining
+        II.IntoIterator II.IntoIter.Iterator id_fn neighbors_fn start it yielded }
 {}
 
 /// Each complete run of `topo_order_reverse_lazy` without an error yields a topological order of

@@ -1,9 +1,10 @@
-//! State of a lazily produced topological order, each node before its neighbours.
+//! State of a lazily produced topological order: the ready nodes of a chunk and the starts of the
+//! next.
 ghost use Rattle.std.specs.Prelude.{◌≡◌, ◌+◌, ◌<◌, ◌^◌, ◌++◌, ◌∷◌, length, [], None, Some, Err, IfOk, IfErr, IsSome, OnOk};
 ghost use Rattle.std.specs.HashSet.{hash_set_len};
 ghost use Rattle.jj_dag.specs.declared.walk_error.WalkError.TheVariants.{Memory, Node};
 ghost use Rattle.jj_dag.specs.Errors.{IfNode};
-ghost use Rattle.jj_walks.specs.GroupedSteps.{answer_of};
+ghost use Rattle.jj_walks.specs.GroupedSteps.{as_item};
 ghost use Rattle.jj_walks.specs.LazySteps.{CanGo, FailsNext, HasCause, Refills, YieldsOn};
 
 use crate::look_ahead::{Chunk, take_chunk};
@@ -22,7 +23,7 @@ pub struct LazyOrder<T, ID: Hash + Eq, E, F, N, C> {
     pub cycle_fn: C,
     /// The nodes that come next, in reverse.
     pub ready: Vec<T>,
-    /// The nodes from which the order goes on.
+    /// The starts of the next chunk.
     pub start: Vec<T>,
     /// The ids of the nodes that were yielded.
     pub emitted: HashSet<ID>,
@@ -37,7 +38,9 @@ where
     N: FnMut(&T) -> NI,
     C: FnMut(T) -> E,
 {
-    /// Returns the next node, or `None` after the last.
+    /// Returns the next node, or `None` after the last. Fails with `Node` of the error of a failed
+    /// item, with `Node` of `cycle_fn` of a node on a cycle or below one, and with `Memory` if
+    /// memory runs out.
     pub fn next_node(&mut self) -> Result<Option<T>, WalkError<E>>
         requires { CanGo ID.eq F.Fn N.FnMut NI.IntoIterator NI.IntoIter.Iterator C.FnMut self.old }
         ensures can_go { IfOk result (λ o. IsSome o → CanGo ID.eq F.Fn N.FnMut NI.IntoIterator
@@ -46,15 +49,12 @@ where
             → hash_set_len self.new.emitted ≡ hash_set_len self.old.emitted + 1) }
         ensures small { hash_set_len self.old.emitted < 2 ^ 63 }
         ensures yields { YieldsOn ID.eq F.Fn N.FnMut NI.IntoIterator NI.IntoIter.Iterator C.FnMut
-            self.old (answer_of result) self.new }
+            self.old (as_item result) self.new }
         ensures failed { (error : E) → FailsNext error self.old → result ≡ Err (Node error) }
     {
         // The order ends, since a set contains fewer than 2^63 ids.
         let _count = self.emitted.len();
-        match self.refill() {
-            Ok(()) => {}
-            Err(refused) => return Err(refused),
-        }
+        self.refill()?;
         let Some(node) = self.ready.pop() else {
             return Ok(None);
         };
@@ -65,7 +65,7 @@ where
         Err(WalkError::Node((self.cycle_fn)(node)))
     }
 
-    // Refills `ready` if it is empty.
+    // Refills `ready` with the next chunk if it is empty.
     fn refill(&mut self) -> Result<(), WalkError<E>>
         requires { CanGo ID.eq F.Fn N.FnMut NI.IntoIterator NI.IntoIter.Iterator C.FnMut self.old }
         ensures can_go { OnOk result (CanGo ID.eq F.Fn N.FnMut NI.IntoIterator NI.IntoIter.Iterator
@@ -128,10 +128,7 @@ where
             NI.IntoIter.Iterator C.FnMut self.old)) }
     {
         let start = mem::replace(&mut self.start, Vec::new(self.alloc));
-        let Chunk { nodes, left, stuck } = match take_chunk(&mut self.graph, self.alloc, start) {
-            Ok(chunk) => chunk,
-            Err(refused) => return Err(refused),
-        };
+        let Chunk { nodes, left, stuck } = take_chunk(&mut self.graph, self.alloc, start)?;
         match stuck {
             Some(node) => Err(WalkError::Node((self.cycle_fn)(node))),
             None => {

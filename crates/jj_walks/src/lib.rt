@@ -19,3 +19,4 @@ mod reversed;
 mod sources;
 mod topo_order_chunked;
 mod topo_order_lazy;
+mod walk_items;

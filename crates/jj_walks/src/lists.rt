@@ -1,4 +1,4 @@
-//! A map from keys to lists.
+//! A multimap: a hash map from keys to lists.
 ghost use Rattle.std.specs.Prelude.{◌≡◌, ◌++◌, ◌∷◌, [], OnOk, if◌then◌else◌};
 ghost use Rattle.jj_walks.specs.ListsByKey.{items_at};
 
@@ -6,7 +6,7 @@ use std::alloc::AllocError;
 use std::collections::HashMap;
 use std::hash::Hash;
 
-/// Appends a value to the list at the key. Fails if memory runs out.
+/// Appends a value to the list at the key, in expected constant time. Fails if memory runs out.
 pub fn push_at<K: Hash + Eq + Drop, V: Drop>(
     lists: &mut HashMap<K, Vec<V>>,
     key: K,

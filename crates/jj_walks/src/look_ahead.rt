@@ -17,19 +17,19 @@ use std::hash::Hash;
 // Pops the greatest pending node. Returns `None` if none is pending, or if only one is after some
 // were explored and no root (a node without neighbors) was found.
 fn next_to_explore<T: Ord>(
-    waiting: &mut BinaryHeap<T>,
+    frontier: &mut BinaryHeap<T>,
     explored: usize,
     root_met: bool,
 ) -> Option<T>
     ensures taken { IfSome result (λ node.
-        IsPermutation (heap_items waiting.old) (node ∷ heap_items waiting.new)) }
-    ensures same { IfNone result (heap_items waiting.new ≡ heap_items waiting.old) }
-    ensures few { IfNone result (length (heap_items waiting.old) ≤ 1) }
-    ensures rootless { IfNone result (root_met ≡ true → heap_items waiting.old ≡ []) }
-    ensures begun { IfNone result (explored ≡ 0 → heap_items waiting.old ≡ []) }
+        IsPermutation (heap_items frontier.old) (node ∷ heap_items frontier.new)) }
+    ensures same { IfNone result (heap_items frontier.new ≡ heap_items frontier.old) }
+    ensures few { IfNone result (length (heap_items frontier.old) ≤ 1) }
+    ensures rootless { IfNone result (root_met ≡ true → heap_items frontier.old ≡ []) }
+    ensures begun { IfNone result (explored ≡ 0 → heap_items frontier.old ≡ []) }
 {
-    if waiting.len() > 1 || explored == 0 || root_met {
-        return waiting.pop();
+    if frontier.len() > 1 || explored == 0 || root_met {
+        return frontier.pop();
     }
     None
 }
@@ -58,28 +58,26 @@ where
     ensures { ExploresFrom ID.eq F.Fn N.FnMut NI.IntoIterator NI.IntoIter.Iterator closures.old
         closures.new start.items result }
 {
-    let mut waiting = BinaryHeap::from(start);
+    let mut frontier = BinaryHeap::from(start);
     let mut found = IndexedGraph::new(alloc);
     let mut root_met = false;
-    while let Some(node) = next_to_explore(&mut waiting, found.nodes.len(), root_met) {
+    while let Some(node) = next_to_explore(&mut frontier, found.nodes.len(), root_met) {
         let id = (closures.id_fn)(&node)?;
         if found.index_of.contains_key(&id) {
             continue;
         }
-        let neighbors = match closures.neighbors(alloc, &node) {
-            Ok(neighbors) => neighbors,
-            Err(refused) => return Err(refused),
-        };
+        let neighbors = closures.neighbors(alloc, &node)?;
         let ids = ids_of(alloc, &closures.id_fn, &neighbors)?;
         root_met |= ids.is_empty();
         found.add_node(node, id, ids)?;
-        waiting.append(&mut BinaryHeap::from(neighbors))?;
+        frontier.append(&mut BinaryHeap::from(neighbors))?;
     }
-    Ok((found, waiting.into_vec()))
+    Ok((found, frontier.into_vec()))
 }
 
-/// Takes a chunk from several starts: all starts, and every node explored before one pending node
-/// is left that they all reach.
+/// Returns the chunk of several starts: all starts, and every node explored before one pending node
+/// is left that they all reach. Fails with `Node` of the error of the first failed item, and with
+/// `Memory` if memory runs out.
 pub fn take_chunk<F, N, T: Ord + Drop, ID: Hash + Eq + Drop, E: Drop, NI>(
     closures: &mut Closures<F, N>,
     alloc: Global,

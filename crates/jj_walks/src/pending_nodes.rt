@@ -1,4 +1,4 @@
-//! Pending nodes of a grouped graph, with the in-degrees of pending and required ids.
+//! State of Kahn's algorithm for a grouped graph: pending nodes and in-degrees.
 ghost use Rattle.std.specs.Prelude.{◌≡◌, ◌↔◌, ◌+◌, ◌-◌, ◌||◌, ◌∷◌, ◌++◌, [], List, IfOk, OnOk, OnErr, IsTrue, None, true, is_some, count_by, if◌then◌else◌};
 ghost use Rattle.std.specs.HashMap.{get, hash_map_len};
 ghost use Rattle.std.specs.List.{list_any};
@@ -59,7 +59,7 @@ impl<N: Drop, ID: Hash + Eq + Clone + Drop> PendingNodes<N, ID> {
         self.nodes.contains_key(id)
     }
 
-    /// Makes the id a required one. Fails if memory runs out.
+    /// Makes the id required, and a head. Fails if memory runs out.
     pub fn prioritize(&mut self, id: ID) -> Result<(), AllocError>
         requires clones { (i j : ID) → ID.is_clone i j → IsTrue (ID.eq i j) }
         ensures prioritized { OnOk result (Adds ID.eq (Prioritized id) self.old self.new) }

@@ -1,4 +1,4 @@
-//! A topological order, one chunk at a time.
+//! Topological order in chunks: best-first look-ahead, and Kahn's algorithm within a chunk.
 ghost use Rattle.std.specs.Prelude.{◌≡◌, ◌⊎◌, [], map, IfOk, OnErr};
 ghost use Rattle.jj_dag.specs.ClosureGraph.{InEachModel, IsMadeBesideCycle, IsNeighborsError, graph_of_items};
 ghost use Rattle.jj_dag.specs.Outcomes.{IfFails};
@@ -19,9 +19,10 @@ use std::mem;
 ///
 /// `start` is empty at the end; it has at most one node after a chunk of several starts, and the
 /// neighbors of the node after a chunk of one. From several starts the greatest pending node is
-/// expanded until one pending node is left that all expanded ones reach. Fails with `Node` of the
-/// first failed item, or of `cycle_fn` of some reachable node if a cycle is found. After an error
-/// `start` is empty.
+/// expanded until one pending node is left that all expanded ones reach. Takes `O(n log n + e)` for
+/// n nodes of the chunk with e edges. Fails with `Node` of the error of the first failed item, with
+/// `Node` of `cycle_fn` of some reachable node if a cycle is found, and with `Memory` if memory
+/// runs out. After an error `start` is empty.
 pub fn topo_order_reverse_chunked<T, ID: Hash + Eq + Drop, E: Drop, NI, F, N, C>(
     alloc: Global,
     start: &mut Vec<T>,
@@ -57,10 +58,7 @@ where
     };
     let mut taken = mem::replace(start, Vec::new(alloc));
     if taken.len() > 1 {
-        let Chunk { nodes, left, stuck } = match take_chunk(&mut graph, alloc, taken) {
-            Ok(chunk) => chunk,
-            Err(refused) => return Err(refused),
-        };
+        let Chunk { nodes, left, stuck } = take_chunk(&mut graph, alloc, taken)?;
         return match stuck {
             Some(node) => Err(WalkError::Node(cycle_fn(node))),
             None => {
@@ -72,10 +70,7 @@ where
     let Some(node) = taken.pop() else {
         return Ok(SmallVec::new(alloc));
     };
-    let neighbors = match graph.neighbors(alloc, &node) {
-        Ok(neighbors) => neighbors,
-        Err(refused) => return Err(refused),
-    };
+    let neighbors = graph.neighbors(alloc, &node)?;
     let mut chunk = SmallVec::new(alloc);
     chunk.push(node)?;
     *start = neighbors;

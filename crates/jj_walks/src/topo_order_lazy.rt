@@ -1,4 +1,4 @@
-//! A lazily produced topological order, each node before its neighbours.
+//! Lazily produced topological order, each node before its neighbours, as an iterator over chunks.
 ghost use Rattle.std.specs.Prelude.{IfOk};
 ghost use Rattle.std.specs.Iterator.{at_most};
 ghost use Rattle.jj_dag.specs.ClosureGraph.{graph_of_items, list_of_items};
@@ -12,7 +12,7 @@ use std::alloc::{AllocError, Global};
 use std::collections::HashSet;
 use std::hash::Hash;
 
-/// Iterates over the nodes of a topological order. It ends after its first error.
+/// Iterates over the nodes of a topological order. An error is the last item.
 #[derive(Drop)]
 pub struct TopoOrderReverseLazy<T, ID: Hash + Eq, E, F, N, C> {
     order: LazyOrder<T, ID, E, F, N, C>,
@@ -50,10 +50,11 @@ where
     }
 }
 
-/// Iterates over the nodes that the starts reach, each before its neighbours. While several nodes
-/// are left, the greatest is expanded, until only one is left, which all expanded nodes reach.
-/// Fails with `Node` of the error of a start or a neighbor, or of `cycle_fn` of some reachable node
-/// if a cycle is reachable.
+/// Returns an iterator over the nodes that the starts reach, each before its neighbours. While
+/// several nodes are left, the greatest is expanded, until only one is left, which all expanded
+/// nodes reach. Its last item is an error where a start or a neighbour failed (`Node` of the
+/// error), a cycle is reachable (`Node` of `cycle_fn` of some reachable node) or memory ran out
+/// (`Memory`). Fails if memory runs out while the starts are collected.
 pub fn topo_order_reverse_lazy<T: Ord + Drop, ID: Hash + Eq + Drop, E: Drop, II, NI, F, N, C>(
     alloc: Global,
     start: II,

@@ -15,11 +15,11 @@ use Rattle.std.proofs.lemmas.List.Elements.{Contains-append_left, Contains-appen
 use Rattle.std.proofs.lemmas.Map.Keys.{IsDistinct-head, IsDistinct-tail}
 use denote.Ref.{Bor}
 use Rattle.jj_walks.specs.declared.graph.GraphEdge.{GraphEdge}
-use Rattle.jj_walks.specs.Reversed.{LeadsToId, ShowsById, ShownGraph, edge_to, incoming_edges, reversed_graph, shown_graph, reversed_edges, with_incoming}
+use Rattle.jj_walks.specs.Reversed.{LeadsToId, HasEdgesById, EdgeLists, edge_to, incoming_edges, reversed_graph, edge_lists, reversed_edges, with_incoming}
 use Rattle.jj_walks.proofs.Expanding.{at_first, first_or_rest, in_map, in_rest}
 use Rattle.jj_walks.proofs.GroupedOrders.{append-cases}
 use Rattle.jj_walks_tests.specs.declared.commits.Commit.{Commit}
-use Rattle.jj_walks_tests.specs.Branches.{ShowsCommits, parent_edge, parent_edges}
+use Rattle.jj_walks_tests.specs.Branches.{ImplementsCommits, parent_edge, parent_edges}
 use Rattle.jj_walks_tests.specs.Children.{HaveChildren}
 use Rattle.jj_walks_tests.specs.Commits.{ids_of}
 
@@ -70,10 +70,10 @@ listed_items items s xs same len d =
 -- ---- edges
 
 module _ (commits : List Commit) where
-  abbrev pub edges_of : List (Bor Commit) → ShownGraph (Bor Commit) ℕ
+  abbrev pub edges_of : List (Bor Commit) → EdgeLists (Bor Commit) ℕ
   edges_of shown = map {B = Bor Commit × List (GraphEdge ℕ)} (λ c. (c, parent_edges commits c.now)) shown
 
-  pub graph_shown : (shown : List (Bor Commit)) (nodes : List Shown) → ShowsCommits commits shown (map {B = Result Shown ℕ} (λ n. Ok n) nodes) → shown_graph nodes ≡ edges_of shown
+  pub graph_shown : (shown : List (Bor Commit)) (nodes : List Shown) → ImplementsCommits commits shown (map {B = Result Shown ℕ} (λ n. Ok n) nodes) → edge_lists nodes ≡ edges_of shown
   graph_shown [] [] h = refl
   graph_shown [] (n ∷ nodes) h = absurd h
   graph_shown (c ∷ shown) [] h = absurd h
@@ -125,35 +125,35 @@ module _ (commits : List Commit) where
 
 -- ---- nodes
 
-module _ (graph : ShownGraph (Bor Commit) ℕ) where
+module _ (graph : EdgeLists (Bor Commit) ℕ) where
   abbrev Node : Type 0
   Node = Bor Commit × List (GraphEdge (Bor Commit))
 
-  own_edges : (ns : List (Bor Commit)) → IsDistinct eqb (map id_of ns) → (want : Node) → Contains (with_incoming eqb id_of graph ns) want → want.1 ≡ incoming_edges eqb want.0.now.id graph
-  own_edges [] once want h = absurd (omega (arith, h.1))
-  own_edges (c ∷ ns) once want h =
+  own_edges : (ns : List (Bor Commit)) → IsDistinct eqb (map id_of ns) → (expected : Node) → Contains (with_incoming eqb id_of graph ns) expected → expected.1 ≡ incoming_edges eqb expected.0.now.id graph
+  own_edges [] once expected h = absurd (omega (arith, h.1))
+  own_edges (c ∷ ns) once expected h =
       ⊎_elim (λ here.
       let all : cond (list_any (λ other. eqb (id_of other) (id_of c)) ns) [] (incoming_edges eqb (id_of c) graph) ≡ incoming_edges eqb (id_of c) graph =
       ap (λ b. cond b [] (incoming_edges eqb (id_of c) graph)) (no_later (id_of c) ns (IsDistinct-head eqb (id_of c) (map id_of ns) once)) in
       subst (λ (w : Node). w.1 ≡ incoming_edges eqb w.0.now.id graph) here all)
-      (λ there. own_edges ns (IsDistinct-tail eqb (id_of c) (map id_of ns) once) want there)
-      (first_or_rest (c, cond (list_any (λ other. eqb (id_of other) (id_of c)) ns) [] (incoming_edges eqb (id_of c) graph)) (with_incoming eqb id_of graph ns) want h)
+      (λ there. own_edges ns (IsDistinct-tail eqb (id_of c) (map id_of ns) once) expected there)
+      (first_or_rest (c, cond (list_any (λ other. eqb (id_of other) (id_of c)) ns) [] (incoming_edges eqb (id_of c) graph)) (with_incoming eqb id_of graph ns) expected h)
 
-  all_nodes : (ns : List (Bor Commit)) → map (λ (want : Node). want.0.now) (with_incoming eqb id_of graph ns) ≡ map (λ c. c.now) ns
+  all_nodes : (ns : List (Bor Commit)) → map (λ (expected : Node). expected.0.now) (with_incoming eqb id_of graph ns) ≡ map (λ c. c.now) ns
   all_nodes [] = refl
   all_nodes (c ∷ ns) = ap (λ l. c.now ∷ l) (all_nodes ns)
 
 module _ (clone : ℕ → ℕ → Type 0) (cloned : (a b : ℕ) → clone a b → b ≡ a) where
   abbrev Match : Bor Commit × List (GraphEdge (Bor Commit)) → Bor Commit × List (GraphEdge ℕ) → Type 0
-  Match want got = (got.0 ≡ want.0) × AllZip (LeadsToId clone id_of) want.1 got.1
+  Match expected actual = (actual.0 ≡ expected.0) × AllZip (LeadsToId clone id_of) expected.1 actual.1
 
-  targets : (edges : List (GraphEdge (Bor Commit))) (given : List (GraphEdge ℕ)) → AllZip (LeadsToId clone id_of) edges given → map (λ edge. edge.target) given ≡ map (λ edge. id_of edge.target) edges
+  targets : (edges : List (GraphEdge (Bor Commit))) (returned : List (GraphEdge ℕ)) → AllZip (LeadsToId clone id_of) edges returned → map (λ edge. edge.target) returned ≡ map (λ edge. id_of edge.target) edges
   targets [] [] k = refl
-  targets [] (y ∷ given) k = absurd k
+  targets [] (y ∷ returned) k = absurd k
   targets (x ∷ edges) [] k = absurd k
-  targets (x ∷ edges) (y ∷ given) k = let first = cloned (id_of x.target) y.target k.0.0 in let rest = targets edges given k.1 in λ i. first i ∷ rest i
+  targets (x ∷ edges) (y ∷ returned) k = let first = cloned (id_of x.target) y.target k.0.0 in let rest = targets edges returned k.1 in λ i. first i ∷ rest i
 
-  same_order : (wants : List (Bor Commit × List (GraphEdge (Bor Commit)))) (nodes : List Shown) → AllZip Match wants (shown_graph nodes) → map (λ node. node.0.now) nodes ≡ map (λ want. want.0.now) wants
+  same_order : (wants : List (Bor Commit × List (GraphEdge (Bor Commit)))) (nodes : List Shown) → AllZip Match wants (edge_lists nodes) → map (λ node. node.0.now) nodes ≡ map (λ expected. expected.0.now) wants
   same_order [] [] k = refl
   same_order [] (n ∷ nodes) k = absurd k
   same_order (w ∷ wants) [] k = absurd k
@@ -168,19 +168,19 @@ module _ (clone : ℕ → ℕ → Type 0) (cloned : (a b : ℕ) → clone a b �
     shown_ids [] = refl
     shown_ids (c ∷ cs) = ap (λ l. id_of c ∷ l) (shown_ids cs)
 
-    pub have_children : (nodes : List Shown) → ShowsById clone id_of (reversed_graph eqb id_of (edges_of commits shown)) (shown_graph nodes) → HaveChildren commits nodes
+    pub have_children : (nodes : List Shown) → HasEdgesById clone id_of (reversed_graph eqb id_of (edges_of commits shown)) (edge_lists nodes) → HaveChildren commits nodes
     have_children nodes shows =
         let graph = edges_of commits shown in
         let wants = with_incoming eqb id_of graph shown in
-        let k : AllZip Match (reverse wants) (shown_graph nodes) = subst (λ (l : List (Bor Commit)). ShowsById clone id_of (reverse (with_incoming eqb id_of graph l)) (shown_graph nodes)) (shown_nodes shown) shows in
+        let k : AllZip Match (reverse wants) (edge_lists nodes) = subst (λ (l : List (Bor Commit)). HasEdgesById clone id_of (reverse (with_incoming eqb id_of graph l)) (edge_lists nodes)) (shown_nodes shown) shows in
         let distinct : IsDistinct eqb (map id_of shown) = subst (λ (l : List ℕ). IsDistinct eqb l) (ap ids_of (sym same) ∙ sym (shown_ids shown)) once in
         record {
-          order = same_order (reverse wants) nodes k ∙ map_back (λ want. want.0.now) wants ∙ ap reverse (all_nodes graph shown ∙ same);
+          order = same_order (reverse wants) nodes k ∙ map_back (λ expected. expected.0.now) wants ∙ ap reverse (all_nodes graph shown ∙ same);
           children = λ node at id.
-              let got = zip_back Match (reverse wants) (shown_graph nodes) k (node.0, node.1.items) (in_map {Y = Bor Commit × List (GraphEdge ℕ)} (λ entry. (entry.0, entry.1.items)) nodes node at) in
-              let edges : got.0.1 ≡ incoming_edges eqb node.0.now.id graph = own_edges graph shown distinct got.0 (back_in wants got.0 got.1) ∙ ap (λ c. incoming_edges eqb c.now.id graph) (sym got.2.0) in
+              let actual = zip_back Match (reverse wants) (edge_lists nodes) k (node.0, node.1.items) (in_map {Y = Bor Commit × List (GraphEdge ℕ)} (λ entry. (entry.0, entry.1.items)) nodes node at) in
+              let edges : actual.0.1 ≡ incoming_edges eqb node.0.now.id graph = own_edges graph shown distinct actual.0 (back_in wants actual.0 actual.1) ∙ ap (λ c. incoming_edges eqb c.now.id graph) (sym actual.2.0) in
               let listed : map (λ edge. edge.target) node.1.items ≡ map (λ edge. id_of edge.target) (incoming_edges eqb node.0.now.id graph) =
-              targets got.0.1 node.1.items got.2.1 ∙ ap (map (λ edge. id_of edge.target)) edges in (
+              targets actual.0.1 node.1.items actual.2.1 ∙ ap (map (λ edge. id_of edge.target)) edges in (
                 λ h.
                     let e = from_map (λ edge. id_of edge.target) (incoming_edges eqb node.0.now.id graph) id (subst (λ (l : List ℕ). Contains l id) listed h) in
                     let c = incoming_from commits node.0.now.id shown e.0 e.1 in

@@ -1,8 +1,7 @@
 pub mod Numbering
 pub mod Ordered
 pub mod Gaps
-pub mod Preorders
-pub mod Sound
+pub mod OkItems
 pub mod Grouping
 pub mod Ranks
 pub mod Newest
@@ -11,3 +10,4 @@ pub mod LookedUpCommits
 pub mod KnownAncestors
 pub mod ImplementedGraphs
 pub mod Children
+pub mod AdjacencyLists

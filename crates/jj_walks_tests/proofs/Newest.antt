@@ -10,7 +10,7 @@ use Rattle.std.proofs.lemmas.Bool.Decides.{Decides-eqb}
 use Rattle.std.proofs.lemmas.Cmp.{nat_list_cmp_total, tied_itself}
 use denote.Ref.{Bor}
 use Rattle.jj_dag.specs.Graph.{ReachedFrom, IsTopologicalOrder, IsGreatestTopologicalOrder}
-use Rattle.jj_dag.specs.Walk.{Model, AreNodes}
+use Rattle.jj_dag.specs.Walk.{GraphModel, AreNodes}
 use Rattle.jj_dag.proofs.Collecting.{are_nodes}
 use Rattle.jj_dag.proofs.GreatestOrder.{map_twice}
 use Rattle.jj_dag.proofs.Relabelled.{Contains-map}
@@ -56,7 +56,7 @@ module _ (commits : List Commit) where
   free n h = rank_below time_of (ids_of commits) n
 
   -- the numbering by rank
-  abbrev pub ranked_walk : Model (Bor Commit) (Bor ℕ)
+  abbrev pub ranked_walk : GraphModel (Bor Commit) (Bor ℕ)
   ranked_walk = renumbered (walk_of commits) to back unused
 
   -- commits of the list compare as their ranks do

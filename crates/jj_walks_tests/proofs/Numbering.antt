@@ -12,7 +12,7 @@ use Rattle.std.proofs.lemmas.List.Elements.{Contains-append_right}
 use denote.Ref.{Bor}
 use Rattle.jj_dag.specs.Graph.{HasEdge, AreMaximalElements}
 use Rattle.jj_dag.specs.CommonNodes.{AreClosestCommon}
-use Rattle.jj_dag.specs.Walk.{Model, AreNodes}
+use Rattle.jj_dag.specs.Walk.{GraphModel, AreNodes}
 use Rattle.jj_dag.proofs.Collecting.{are_nodes}
 use Rattle.jj_dag.proofs.Heads.{Contains-from_map, Contains-map}
 use Rattle.jj_walks_tests.specs.declared.commits.Commit.{Commit}
@@ -101,7 +101,7 @@ module _ (commits : List Commit) where
   node x = cond (has_commit commits x.now) x.now.id (unused_id commits)
 
   -- the numbering, where commits lend their ids
-  abbrev pub walk_of : Model (Bor Commit) (Bor ℕ)
+  abbrev pub walk_of : GraphModel (Bor Commit) (Bor ℕ)
   walk_of = record { graph = parent_graph commits; is_node = λ n. is_some (commit_with commits n); node = node; id = λ i. i.now }
 
   pub node_id : (x : Bor Commit) → has_commit commits x.now ≡ true → node x ≡ x.now.id

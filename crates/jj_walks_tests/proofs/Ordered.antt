@@ -1,22 +1,17 @@
 -- A postorder of the ids as an order of the commits.
 use Rattle.std.proofs.Common.{◌≡◌, ℕ, true, List, [], ◌∷◌, ◌++◌, ap, map, refl, sym, ◌∙◌, subst, ⊎_elim, reverse, eqb, is_some}
 use Rattle.std.specs.List.{Contains, IsDistinct}
-use Rattle.std.proofs.lemmas.List.{map-append, reverse-append}
 use denote.Ref.{Bor}
 use Rattle.jj_dag.specs.Graph.{IsPostorder, IsAcyclicFrom, ReachedFrom, OnCycleFrom, Precedes}
 use Rattle.jj_dag.proofs.Relabelled.{Contains-map, Contains-unmap}
 use Rattle.jj_dag.proofs.Reaching.{Contains-postorder}
 use Rattle.jj_dag.proofs.Collecting.{are_nodes}
+use Rattle.jj_walks.proofs.DistinctLists.{map_turned}
 use Rattle.jj_walks_tests.specs.declared.commits.Commit.{Commit}
 use Rattle.jj_walks_tests.specs.Commits.{ids_of, commit_with, parent_graph, has_commit, IsParentsFirst, IsOnCycle}
 use Rattle.jj_walks_tests.proofs.Numbering.{walk_of, walk_closed, starts_are_nodes, node, node_has, node_stands, numbers_had, found_edge}
 use Rattle.jj_dag.proofs.Postorders.{from_reverse, Postorder-reached, Postorder-once, Postorder-before}
 use Rattle.jj_dag.proofs.Plain.{nothing}
-
-map_reversed : {A B : Type 0} (f : A → B) (xs : List A) → map f (reverse xs) ≡ reverse (map f xs)
-map_reversed f [] = refl
-map_reversed f (x ∷ xs) =
-    ap (map f) (reverse-append (x ∷ []) xs) ∙ map-append f (reverse xs) (x ∷ []) ∙ ap (λ l. l ++ f x ∷ []) (map_reversed f xs) ∙ sym (reverse-append (f x ∷ []) (map f xs))
 
 module _ (commits : List Commit) (once : IsDistinct eqb (ids_of commits)) where
   reached_are_nodes : (a : ℕ) → ReachedFrom (parent_graph commits) (ids_of commits) a → is_some (commit_with commits a) ≡ true
@@ -47,8 +42,8 @@ module _ (commits : List Commit) (once : IsDistinct eqb (ids_of commits)) where
   pub ordered_reversed : (order : List (Bor Commit)) → IsPostorder (parent_graph commits) (ids_of commits) (reverse (map (node commits) order)) → IsAcyclicFrom (parent_graph commits) (ids_of commits)
       → IsParentsFirst commits (reverse (map (λ x. x.now) order))
   ordered_reversed order p acyclic =
-      subst (λ l. IsParentsFirst commits l) (map_reversed (λ x. x.now) order)
-      (ordered (reverse order) (subst (λ l. IsPostorder (parent_graph commits) (ids_of commits) l) (sym (map_reversed (node commits) order)) p) acyclic)
+      subst (λ l. IsParentsFirst commits l) (map_turned (λ x. x.now) order)
+      (ordered (reverse order) (subst (λ l. IsPostorder (parent_graph commits) (ids_of commits) l) (sym (map_turned (node commits) order)) p) acyclic)
 
   pub on_cycle : (x : Bor Commit) (id : ℕ) → id ≡ x.now.id → OnCycleFrom (parent_graph commits) (ids_of commits) (node commits x) → IsOnCycle commits id
   on_cycle x id e k = subst (λ n. IsOnCycle commits n) (sym (e ∙ node_stands commits x (reached_are_nodes (node commits x) k.0))) k

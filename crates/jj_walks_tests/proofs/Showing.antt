@@ -18,7 +18,7 @@ use Rattle.jj_walks_tests.proofs.Numbering.{node_stands, walk_closed, walk_neigh
 
 module _ (commits : List Commit) {F N : Type 0} (id_fn : F) (neighbors_fn : N) where
   module _ (ids : Shared F (Bor (Bor Commit) × Unit {0}) (Result (Bor ℕ) AllocError)) (lists : Mut N (Bor (Bor Commit) × Unit {0}) Parents)
-      (tells : (x : Bor Commit) (i : Bor ℕ) → ReturnsId ids id_fn x i → i.now ≡ x.now.id)
+      (same_id : (x : Bor Commit) (i : Bor ℕ) → ReturnsId ids id_fn x i → i.now ≡ x.now.id)
       (looks : (a : Bor (Bor Commit) × Unit {0}) (r : Parents) (after : N) → Called lists neighbors_fn a r after
       → (r.commits.now ≡ commits) × (r.ids.now ≡ a.0.now.now.parents.items) × (after ≡ neighbors_fn)) where
     -- as commits with their parents
@@ -26,7 +26,7 @@ module _ (commits : List Commit) {F N : Type 0} (id_fn : F) (neighbors_fn : N) w
     parents_implemented = record {
       closed = walk_closed commits;
       apart = λ i j a b. refl;
-      ids_match = λ x i is h. tells x i h ∙ node_stands commits x is;
+      ids_match = λ x i is h. same_id x i h ∙ node_stands commits x is;
       neighbors = always_returns_same lists _ neighbors_fn (λ a r after h.
           let k = looks a r after h in
           let left : parents_left r ≡ parents_in commits a.0.now.now = ap (λ cs. filter_map (commit_with cs) r.ids.now) k.0 ∙ ap (filter_map (commit_with commits)) k.1 in (

@@ -30,7 +30,7 @@ abbrev pub nodes_of : List Commit → List (Bor Commit) → List (Entry (Bor Com
 nodes_of commits shown = reverse (map (node_of commits) shown)
 
 -- each item is a commit with its edges
-abbrev pub ShowsCommits : List Commit → List (Bor Commit)
+abbrev pub ImplementsCommits : List Commit → List (Bor Commit)
     → List (Result (Bor Commit × Vec (GraphEdge ℕ) Global) ℕ) → Type 0
-ShowsCommits commits shown items = AllZip (λ c item. IsOkAnd item
+ImplementsCommits commits shown items = AllZip (λ c item. IsOkAnd item
     (λ x. (x.0 ≡ c) × (x.1.items ≡ parent_edges commits c.now))) shown items

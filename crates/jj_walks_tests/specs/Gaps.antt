@@ -22,9 +22,9 @@ whole_graph commits id = elim (commit_with commits id) [
 ]
 
 -- the error's description, unless out of memory, is that of the commit
-abbrev pub tells_gap : Commit → Gap → Bool
-tells_gap c Memory = true
-tells_gap c (Text text) = string_eq text c.text
+abbrev pub describes_gap : Commit → Gap → Bool
+describes_gap c Memory = true
+describes_gap c (Text text) = string_eq text c.text
 
 abbrev pub HasTextOf : Commit → Gap → Type 0
 HasTextOf c Memory = Unit {0}

@@ -5,5 +5,5 @@ pub mod Parents
 pub mod Gaps
 pub mod Newest
 pub mod Missing
-pub mod WalkItems
+pub mod Adjacency
 pub mod Children

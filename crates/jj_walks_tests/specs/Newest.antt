@@ -19,5 +19,5 @@ IsNewer commits a b = (c d : Commit) × (commit_with commits a ≡ Some c)
 pub record IsNewestFirst (commits : List Commit) (starts order : List ℕ) : Type 0 where
   pub child_first : IsTopologicalOrder (parent_graph commits) starts order
   pub newest : (other : List ℕ) → IsTopologicalOrder (parent_graph commits) starts other
-      → (front later others : List ℕ) (a b : ℕ) → order ≡ front ++ a ∷ later
-      → other ≡ front ++ b ∷ others → a ≢ b → IsNewer commits a b
+      → (prefix later others : List ℕ) (a b : ℕ) → order ≡ prefix ++ a ∷ later
+      → other ≡ prefix ++ b ∷ others → a ≢ b → IsNewer commits a b

@@ -7,7 +7,7 @@ ghost use Rattle.jj_dag.specs.Graph.{IsAcyclicFrom, AreMaximalElements, IsPreord
 ghost use Rattle.jj_walks_tests.specs.declared.commits.Commit.{Commit};
 ghost use Rattle.jj_walks_tests.specs.Commits.{has_commit, ids_of, known_ids, parent_graph, IsParentsFirst, IsOnCycle};
 
-use crate::commits::{Commit, commits_of, parents_of, sound_parents_of};
+use crate::commits::{Commit, commits_of, ok_parents_of, parents_of};
 use jj_content_tests::fallible_iterators::collect_fallible;
 use jj_walks::dag_walk::{WalkError, dfs, heads, topo_order_forward, topo_order_reverse};
 use jj_walks::dag_walk_async::closest_common_nodes;
@@ -88,7 +88,7 @@ pub fn merge_bases<'a>(
         set1.iter(),
         set2.iter(),
         |commit: &&Commit| Ok(&commit.id),
-        |commit: &&Commit| sound_parents_of(commits, *commit),
+        |commit: &&Commit| ok_parents_of(commits, *commit),
     )
 }
 

@@ -6,7 +6,7 @@ ghost use denote.Ref.{Bor};
 ghost use Rattle.jj_walks.specs.declared.grouped.GroupedGraphError.TheVariants.{Memory};
 ghost use Rattle.jj_walks.specs.GroupedOrders.{IsGroupedOrder, IsWhole, has_node};
 ghost use Rattle.jj_walks_tests.specs.declared.commits.Commit.{Commit as commit};
-ghost use Rattle.jj_walks_tests.specs.Branches.{ShowsCommits, nodes_of, parent_edge, parent_edges};
+ghost use Rattle.jj_walks_tests.specs.Branches.{ImplementsCommits, nodes_of, parent_edge, parent_edges};
 ghost use Rattle.jj_walks_tests.specs.Children.{HaveChildren};
 ghost use Rattle.jj_walks_tests.specs.Commits.{ids_of};
 
@@ -41,13 +41,13 @@ fn parent_edges(
 }
 
 // The commits with their edges, as an infallible input.
-fn shown_commits<'a>(
+fn commit_items<'a>(
     alloc: Global,
     commits: &'a [Commit],
 ) -> Result<Vec<Result<GraphNode<&'a Commit, u64>, u64>>, AllocError>
     ensures { IfOk result (λ items. (shown : List (Bor commit))
         × (map (λ c. c.now) shown ≡ commits.now)
-        × ShowsCommits commits.now shown items.items) }
+        × ImplementsCommits commits.now shown items.items) }
 {
     let mut items = Vec::new(alloc);
     for commit in commits {
@@ -70,25 +70,23 @@ fn commit_id<'a, 'b>(commit: &'b &'a Commit) -> &'b u64
 pub fn grouped_commits<'a>(
     alloc: Global,
     commits: &'a [Commit],
-    wanted: u64,
+    required: u64,
 ) -> Result<Vec<&'a Commit>, GroupedGraphError<u64>>
     ensures order { IfOk result (λ order. (shown : List (Bor commit))
         × (map (λ c. c.now) shown ≡ commits.now)
         × (IsWhole eqb (nodes_of commits.now shown) → IsGroupedOrder eqb
-        (nodes_of commits.now shown) (Some wanted) (nodes_of commits.now order.items))) }
+        (nodes_of commits.now shown) (Some required) (nodes_of commits.now order.items))) }
     ensures refused { IfErr result (λ error. (error ≡ Memory) ⊎ ((shown : List (Bor commit))
         × (map (λ c. c.now) shown ≡ commits.now) × (IsWhole eqb (nodes_of commits.now shown)
-        → has_node eqb (nodes_of commits.now shown) wanted ≡ true → ⊥))) }
+        → has_node eqb (nodes_of commits.now shown) required ≡ true → ⊥))) }
 {
-    let input = shown_commits(alloc, commits)?;
+    let input = commit_items(alloc, commits)?;
     let mut graph = TopoGroupedGraph::new(alloc, input.into_iter(), commit_id);
-    graph.prioritize_branch(wanted)?;
+    graph.prioritize_branch(required)?;
     let mut order = Vec::new(alloc);
     for item in graph.stream() {
-        match item {
-            Ok((commit, _edges)) => order.push(commit)?,
-            Err(error) => return Err(error),
-        }
+        let (commit, _edges) = item?;
+        order.push(commit)?;
     }
     Ok(order)
 }
@@ -102,7 +100,7 @@ pub fn children_of<'a>(
     requires { IsDistinct eqb (ids_of commits.now) }
     ensures { IfOk result (λ nodes. HaveChildren commits.now nodes.items) }
 {
-    let input = shown_commits(alloc, commits)?;
+    let input = commit_items(alloc, commits)?;
     reverse_graph(alloc, input.into_iter(), commit_id)
 }
 

@@ -6,7 +6,7 @@ ghost use Rattle.jj_dag.specs.Graph.{IsTopologicalOrder, ReachesCycle};
 ghost use Rattle.jj_walks_tests.specs.Commits.{known_ids, parent_graph};
 ghost use Rattle.jj_walks_tests.specs.Newest.{IsNewestFirst};
 
-use crate::commits::{Commit, failing_parents_of, sound_commits, sound_parent_ids};
+use crate::commits::{Commit, failing_parents_of, ok_commits, ok_parent_ids};
 use jj_walks::dag_walk::WalkError;
 use jj_walks::dag_walk_async::{
     topo_order_reverse_chunked, topo_order_reverse_lazy, topo_order_reverse_ord,
@@ -28,17 +28,15 @@ pub fn children_first<'a>(
 {
     let walk = topo_order_reverse_lazy(
         alloc,
-        sound_commits(commits, ids),
+        ok_commits(commits, ids),
         |commit: &&Commit| Ok(&commit.id),
         |commit: &&Commit| failing_parents_of(commits, *commit),
         |commit: &Commit| commit.id,
     )?;
     let mut order = Vec::new(alloc);
-    for commit in walk {
-        match commit {
-            Ok(commit) => order.push(commit)?,
-            Err(refused) => return Err(refused),
-        }
+    for item in walk {
+        let commit = item?;
+        order.push(commit)?;
     }
     Ok(order)
 }
@@ -56,7 +54,7 @@ pub fn newest_first<'a>(
 {
     topo_order_reverse_ord(
         alloc,
-        sound_commits(commits, ids),
+        ok_commits(commits, ids),
         |commit: &&Commit| Ok(&commit.id),
         |commit: &&Commit| failing_parents_of(commits, *commit),
         |commit: &Commit| commit.id,
@@ -78,7 +76,7 @@ pub fn next_ids(
         alloc,
         start,
         |id: &u64| Ok(*id),
-        |id: &u64| sound_parent_ids(commits, *id),
+        |id: &u64| ok_parent_ids(commits, *id),
         |id: u64| id,
     )
 }

@@ -1,5 +1,5 @@
 //! Chunks that end with an error leave no start.
-use crate::outcomes::met;
+use crate::outcomes::failed_with;
 use jj_content_tests::retry::passes;
 use jj_walks::dag_walk::WalkError;
 use jj_walks::dag_walk_async::topo_order_reverse_chunked;
@@ -51,7 +51,7 @@ fn refused_chunks_leave_no_start(rt: HostRuntime) -> Result<(), Fail> {
         ];
         for (table, starts, errors) in cases {
             let mut start = starts.to_vec(alloc)?;
-            let error = met(rt, next_chunk(alloc, *table, &mut start))?;
+            let error = failed_with(rt, next_chunk(alloc, *table, &mut start))?;
             assert!(rt; errors.contains(&error), "the error {error}");
             assert!(rt; start.is_empty());
         }

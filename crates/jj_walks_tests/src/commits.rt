@@ -73,7 +73,7 @@ pub fn parents_of<'a>(commits: &'a [Commit], commit: &'a Commit) -> Parents<'a>
 }
 
 /// Returns the parents as a result, which is never an error.
-pub fn sound_parents_of<'a>(commits: &'a [Commit], commit: &'a Commit) -> Result<Parents<'a>, u64>
+pub fn ok_parents_of<'a>(commits: &'a [Commit], commit: &'a Commit) -> Result<Parents<'a>, u64>
     ensures { IsOkAnd result (λ parents. (parents.commits.now ≡ commits.now)
         × (parents.ids.now ≡ commit.now.parents.items)) }
 {
@@ -82,17 +82,17 @@ pub fn sound_parents_of<'a>(commits: &'a [Commit], commit: &'a Commit) -> Result
 
 /// Commits of the list, as items that may fail in the eyes of a walk. They never do.
 #[derive(Drop)]
-pub struct SoundCommits<'a> {
+pub struct OkCommits<'a> {
     found: Parents<'a>,
 }
 
-impl<'a> Iterator for SoundCommits<'a> {
+impl<'a> Iterator for OkCommits<'a> {
     type Item = Result<&'a Commit, u64>;
 
     ghost use Rattle.std.specs.Iterator.{YieldsFirstBy, item_count};
-    ghost use Rattle.jj_walks_tests.specs.Parents.{shown_item, items_left};
+    ghost use Rattle.jj_walks_tests.specs.Parents.{value_of_item, items_left};
 
-    ghost next_gives = { YieldsFirstBy shown_item items_left };
+    ghost next_gives = { YieldsFirstBy value_of_item items_left };
 
     ghost remaining = { item_count items_left };
 
@@ -105,30 +105,30 @@ impl<'a> Iterator for SoundCommits<'a> {
 }
 
 /// The commits of the list that have these ids, in the order of the ids.
-pub fn sound_commits<'a>(commits: &'a [Commit], ids: &'a [u64]) -> SoundCommits<'a>
+pub fn ok_commits<'a>(commits: &'a [Commit], ids: &'a [u64]) -> OkCommits<'a>
     ensures commits { result.found.commits.now ≡ commits.now }
     ensures ids { result.found.ids.now ≡ ids.now }
 {
-    SoundCommits {
+    OkCommits {
         found: Parents { commits, ids },
     }
 }
 
 /// The parents of a commit that are in the list, as such items.
-pub fn failing_parents_of<'a>(commits: &'a [Commit], commit: &'a Commit) -> SoundCommits<'a>
+pub fn failing_parents_of<'a>(commits: &'a [Commit], commit: &'a Commit) -> OkCommits<'a>
     ensures commits { result.found.commits.now ≡ commits.now }
     ensures ids { result.found.ids.now ≡ commit.now.parents.items }
 {
-    sound_commits(commits, &commit.parents)
+    ok_commits(commits, &commit.parents)
 }
 
 /// The ids of commits of the list, as such items.
 #[derive(Drop)]
-pub struct SoundIds<'a> {
+pub struct OkIds<'a> {
     found: Parents<'a>,
 }
 
-impl<'a> Iterator for SoundIds<'a> {
+impl<'a> Iterator for OkIds<'a> {
     type Item = Result<u64, u64>;
 
     ghost use Rattle.std.specs.Iterator.{YieldsFirst, item_count};
@@ -148,14 +148,14 @@ impl<'a> Iterator for SoundIds<'a> {
 
 /// The ids of the parents, in the list, of the commit with this id; none where there is no such
 /// commit.
-pub fn sound_parent_ids<'a>(commits: &'a [Commit], id: u64) -> SoundIds<'a>
+pub fn ok_parent_ids<'a>(commits: &'a [Commit], id: u64) -> OkIds<'a>
     ensures { ids_left result ≡ map (λ n. Ok n) (parent_graph commits.now id) }
 {
     match commit_of(commits, id) {
-        Some(commit) => SoundIds {
+        Some(commit) => OkIds {
             found: parents_of(commits, commit),
         },
-        None => SoundIds {
+        None => OkIds {
             found: Parents { commits, ids: &[] },
         },
     }

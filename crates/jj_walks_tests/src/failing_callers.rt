@@ -4,7 +4,7 @@ ghost use Rattle.std.specs.List.{IsDistinct};
 ghost use Rattle.jj_dag.specs.Errors.{IfNode};
 ghost use Rattle.jj_dag.specs.Graph.{IsAcyclicFrom, AreMaximalElements};
 ghost use Rattle.jj_walks_tests.specs.Commits.{ids_of};
-ghost use Rattle.jj_walks_tests.specs.Gaps.{has_ids, tells_gap, whole_graph, IsGapIn};
+ghost use Rattle.jj_walks_tests.specs.Gaps.{has_ids, describes_gap, whole_graph, IsGapIn};
 
 use crate::commits::{Commit, Gap, Parents, commit_of, parents_of};
 use jj_walks::dag_walk::WalkError;
@@ -34,7 +34,7 @@ fn whole_parents_of<'a>(
     ensures parents { IfOk result (λ parents. (parents.commits.now ≡ commits.now)
         × (parents.ids.now ≡ commit.now.parents.items)) }
     ensures gap { IfErr result (λ gap. (has_ids commits.now commit.now.parents.items ≡ false)
-        × (tells_gap commit.now gap ≡ true)) }
+        × (describes_gap commit.now gap ≡ true)) }
 {
     if !has_all(commits, &commit.parents) {
         return match String::from_str(alloc, commit.text.as_str()) {
@@ -130,7 +130,7 @@ mod tests {
     }
 
     #[test]
-    fn errors_own_texts(rt: HostRuntime) -> Result<(), Fail> {
+    fn errors_own_strings(rt: HostRuntime) -> Result<(), Fail> {
         passes(&rt, |rt, alloc| {
             let merge = "merge of what is not there";
             let tips = tips_of(

@@ -167,13 +167,13 @@ mod tests {
     /// Asserts that an order has all nodes and, but for the fan, each before the next lesser one.
     fn is_whole<R: Abort>(rt: &R, shape: Shape, order: &[u64]) {
         assert_eq!(rt; order.len(), 100_001);
-        let mut wanted = HEAD;
+        let mut expected = HEAD;
         for node in order {
             if matches!(shape, Shape::Fan) {
                 assert!(rt; *node <= HEAD);
             } else {
-                assert_eq!(rt; *node, wanted);
-                wanted = wanted.saturating_sub(1);
+                assert_eq!(rt; *node, expected);
+                expected = expected.saturating_sub(1);
             }
         }
     }
@@ -195,12 +195,12 @@ mod tests {
         let alloc = rt.alloc();
         for shape in SHAPES {
             let nodes = maximal(alloc, *shape, HEAD).or_else(|_| maximal(alloc, *shape, HEAD))?;
-            let wanted = if matches!(shape, Shape::Fan) {
+            let expected = if matches!(shape, Shape::Fan) {
                 100_000
             } else {
                 1
             };
-            assert_eq!(rt; nodes.len(), wanted);
+            assert_eq!(rt; nodes.len(), expected);
             assert!(rt; nodes.contains(&(HEAD - 1)));
         }
         Ok(())

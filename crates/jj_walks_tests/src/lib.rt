@@ -2,6 +2,8 @@
 #![tactic(auto)]
 
 #[cfg(test)]
+pub mod adjacency;
+#[cfg(test)]
 pub mod ancestry;
 #[cfg(test)]
 pub mod branches;
@@ -15,6 +17,8 @@ mod chunks;
 mod closest_common_tests;
 pub mod commits;
 #[cfg(test)]
+mod edges;
+#[cfg(test)]
 pub mod failing_callers;
 #[cfg(test)]
 pub mod large;
@@ -24,10 +28,6 @@ pub mod missing;
 #[cfg(test)]
 mod outcomes;
 #[cfg(test)]
-mod shown;
-#[cfg(test)]
-mod texts;
+mod strings;
 #[cfg(test)]
 mod walk_errors;
-#[cfg(test)]
-pub mod walk_items;

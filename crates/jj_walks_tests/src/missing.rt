@@ -8,9 +8,8 @@ ghost use Rattle.jj_walks_tests.specs.Missing.{AreKnownAncestors, IsMissingFrom}
 
 use crate::commits::Commit;
 use crate::lookups::look_up;
-use crate::walk_items::collect_items;
 use jj_walks::dag_walk::{
-    WalkError, dfs_ok, heads_ok, topo_order_forward_ok, topo_order_reverse_ok,
+    WalkError, collect_dfs_ok, heads_ok, topo_order_forward_ok, topo_order_reverse_ok,
 };
 use std::alloc::{AllocError, Global};
 use std::collections::HashSet;
@@ -86,11 +85,10 @@ pub fn known_ancestors<'a>(
 ) -> Result<Vec<Result<&'a Commit, u64>>, AllocError>
     ensures { IfOk result (λ found. AreKnownAncestors commits.now ids.now found.items) }
 {
-    let walk = dfs_ok(
+    collect_dfs_ok(
         alloc,
         look_up(commits, ids),
         |commit: &&Commit| Ok(&commit.id),
         |commit: &&Commit| look_up(commits, &commit.parents),
-    )?;
-    collect_items(alloc, walk)
+    )
 }

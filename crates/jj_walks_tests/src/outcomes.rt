@@ -18,7 +18,7 @@ pub fn found<R: Abort, V: Drop, E: Drop>(
 }
 
 /// Returns the error of a node; any other result is unexpected.
-pub fn met<R: Abort, V: Drop, E: Drop>(
+pub fn failed_with<R: Abort, V: Drop, E: Drop>(
     rt: &R,
     outcome: Result<V, WalkError<E>>,
 ) -> Result<E, AllocError> {

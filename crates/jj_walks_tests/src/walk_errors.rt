@@ -11,9 +11,9 @@ fn printed<E: Error>(alloc: Global, error: &E) -> Result<String, AllocError> {
 }
 
 fn prints<R: Abort, E: Error>(rt: &R, alloc: Global, row: (&E, &str)) -> Result<(), AllocError> {
-    let (error, wanted) = row;
+    let (error, expected) = row;
     let text = printed(alloc, error).or_else(|_| printed(alloc, error))?;
-    assert_eq!(rt; text.as_str(), wanted);
+    assert_eq!(rt; text.as_str(), expected);
     Ok(())
 }
 
@@ -47,8 +47,8 @@ fn grouped_errors_print_and_compare(rt: HostRuntime) -> Result<(), Fail> {
         ),
         (GroupedGraphError::Memory, "out of memory"),
     ];
-    for (error, wanted) in &texts {
-        prints(&rt, alloc, (error, *wanted))?;
+    for (error, expected) in &texts {
+        prints(&rt, alloc, (error, *expected))?;
         assert!(rt; *error == *error);
         assert!(rt; *error != GroupedGraphError::Input(8));
     }

@@ -26,12 +26,13 @@ use Rattle.jj_dag.specs.CommonNodes.{AreClosestCommon, HasNoCommonCycle}
 use Rattle.jj_dag.specs.FallibleGraphs.{BeginsWith}
 use Rattle.jj_dag.specs.Graph.{Graph, IsAcyclicFrom, IsTopologicalOrder, ReachedFrom}
 use Rattle.jj_dag.specs.NodeGraph.{AreMaximalNodes, HasNoCommonNodeCycle, IsChildFirstOrder, IsCommonNode, ReachesNoCycle, ReachesNode}
-use Rattle.jj_dag.specs.Walk.{DrainsTo, Model}
+use Rattle.jj_dag.specs.Walk.{DrainsTo, GraphModel}
 use Rattle.jj_dag.proofs.ClosureGraphs.{may_return_says}
 use Rattle.jj_dag.proofs.FailingWalks.{begun_are}
 use Rattle.jj_dag.proofs.ListNumbers.{list_of_number, list_of_number-number, number, number-not_zero}
 use Rattle.jj_dag.proofs.NodeGraphs.{Contains-from_map, child_first_nodes, closest_nodes, no_common_cycle_up, no_cycle_back, numbers_graph, one_node, reached_down, reaches_more}
 use Rattle.jj_dag.proofs.Walking.{drained_are}
+use Rattle.jj_walks.proofs.Callers.{drained, implements_by, number_eq, number_is_node}
 use Rattle.store_walks.specs.Histories.{Completes, InEachHistory, IsErrorBelow, Parents}
 use Rattle.store_walks.specs.ReadCommits.{AreParentIds, IsErrorOfIds, IsReadError, IsStored, id_of}
 use Rattle.store_walks.specs.declared.read_commit.ReadCommit.{ReadCommit}
@@ -41,39 +42,11 @@ use Rattle.store_walks.proofs.SameCommits.{same_commit}
 abbrev pub id_graph : Parents → Graph
 id_graph parents = numbers_graph parents number list_of_number list_of_number-number
 
-pub number_is_node : (id : List ℕ) → not (number id == 0) ≡ true
-number_is_node id = ap not (number-not_zero id)
-
--- ids are equal just where their numbers are
-pub number_eq : (x y : List ℕ) → bytes_eq x y ≡ (number x == number y)
-number_eq x y =
-    let numbers = Decides-eqb (number x) (number y) in
-    one_answer (bytes_eq x y) (number x == number y) (bytes_eq-Decides x y)
-    ((λ h. sym (list_of_number-number x) ∙ ap list_of_number (numbers.0 h) ∙ list_of_number-number y), λ same. numbers.1 (ap number same))
-
-module _ {X S : Type 0} (becomes : Vec X Global → S → Type 0) (steps : S → Option X → S → Type 0)
-    (items : (v : Vec X Global) (it : S) → becomes v it → YieldsList steps (λ y. y) it v.items) where
-  -- an iterator of a list yields its items
-  pub drained : (v : Vec X Global) (xs : List X) → DrainsTo becomes steps v xs → xs ≡ v.items
-  drained v xs d = sym (map-id xs) ∙ drained_are becomes steps v xs (λ y. y) v.items (items v) d
-
-abbrev becomes : {X : Type 0} → Vec X Global → IntoIter X Global → Type 0
-becomes v it = (into_iter_items it ≡ v.items) × (into_iter_len it ≡ v.len)
-
-pub vec_drained : {X : Type 0} (v : Vec X Global) (xs : List X) → DrainsTo becomes into_iter_steps v xs → xs ≡ v.items
-vec_drained v xs d = sym (map-id xs) ∙ drained_are becomes into_iter_steps v xs (λ y. y) v.items (λ it b. YieldsList-from_vec {s = it} v.items b.0 (b.1 ∙ v.ok.0)) d
-
--- and a part of a run yields the first of them
-pub vec_begun : {X : Type 0} (v : Vec X Global) (xs : List X) → BeginsWith becomes into_iter_steps v xs → (rest : List X) × (v.items ≡ xs ++ rest)
-vec_begun v xs d =
-    let begun = begun_are becomes into_iter_steps v xs (λ y. y) v.items (λ it b. YieldsList-from_vec {s = it} v.items b.0 (b.1 ∙ v.ok.0)) d in
-    (begun.0, begun.1 ∙ ap (λ l. l ++ begun.0) (map-id xs))
-
 module _ (may_fail : BackendError → Type 0) (store : Objects) where
   -- ---- nodes that are ids
 
   -- each number is a node
-  abbrev pub walk_of_ids : Parents → Model (List ℕ) (List ℕ)
+  abbrev pub walk_of_ids : Parents → GraphModel (List ℕ) (List ℕ)
   walk_of_ids parents = record { graph = id_graph parents; is_node = λ a. true; node = number; id = number }
 
   abbrev pub Reads : List ℕ → Result (Vec (List ℕ) Global) BackendError → Type 0
@@ -85,18 +58,15 @@ module _ (may_fail : BackendError → Type 0) (store : Objects) where
         → map number xs ≡ id_graph parents (number id)
     listed_ids parents complete id (Err e) read xs d = absurd d
     listed_ids parents complete id (Ok v) (commit, is, same) xs d =
-        ap (map number) (drained becomes steps items v xs d ∙ same ∙ sym (complete id commit is) ∙ ap parents (sym (list_of_number-number id)))
+        ap (map number) (drained becomes steps v v.items xs (items v) d ∙ same ∙ sym (complete id commit is) ∙ ap parents (sym (list_of_number-number id)))
 
     pub implements_ids : {F N : Type 0} (ids : Shared F (Bor (List ℕ) × Unit {0}) (Result (List ℕ) AllocError)) (lists : Mut N (Bor (List ℕ) × Unit {0}) (Result (Vec (List ℕ) Global) BackendError)) (id_fn : F) (neighbors_fn : N)
         → ((x i : List ℕ) → ReturnsId ids id_fn x i → i ≡ x)
         → ((a : Bor (List ℕ) × Unit {0}) (r : Result (Vec (List ℕ) Global) BackendError) (f : N) → Called lists neighbors_fn a r f → Reads a.0.now r × (f ≡ neighbors_fn))
         → (parents : Parents) → Completes store parents → Implements (walk_of_ids parents) bytes_eq ids lists (YieldsOk (DrainsTo becomes steps)) id_fn neighbors_fn
-    implements_ids ids lists id_fn neighbors_fn tells reads parents complete = record {
-      closed = λ a h b at. refl;
-      apart = λ i j h k. number_eq i j;
-      ids_match = λ x i h told. ap number (tells x i told);
-      neighbors = always_returns_same lists _ neighbors_fn (λ a r f h. let k = reads a r f h in (λ xs here d. listed_ids parents complete a.0.now r k.0 xs d, k.1));
-    }
+    implements_ids ids lists id_fn neighbors_fn same_id reads parents complete =
+        implements_by (walk_of_ids parents) bytes_eq ids lists (YieldsOk (DrainsTo becomes steps)) id_fn neighbors_fn (λ a h b at. refl) (λ i j h k. number_eq i j) (λ x i h returned. ap number (same_id x i returned))
+        (λ a r f h. let k = reads a r f h in (λ xs here d. listed_ids parents complete a.0.now r k.0 xs d, k.1))
 
   -- an error that the closure may return is one of reading
   pub may_read_ids : {N : Type 0} (lists : Mut N (Bor (List ℕ) × Unit {0}) (Result (Vec (List ℕ) Global) BackendError)) (neighbors_fn : N)
@@ -116,7 +86,7 @@ module _ (may_fail : BackendError → Type 0) (store : Objects) where
   node_of c = cond (is_found (store.commits c.id) c.commit) (number c.id) 0
 
   -- each number but 0 is a node
-  abbrev pub walk_of : Parents → Model ReadCommit (List ℕ)
+  abbrev pub walk_of : Parents → GraphModel ReadCommit (List ℕ)
   walk_of parents = record { graph = id_graph parents; is_node = λ a. not (a == 0); node = node_of; id = number }
 
   found_commit : (found : Option CommitValue) (c : CommitValue) → is_found found c ≡ true → found ≡ Some c
@@ -171,20 +141,18 @@ module _ (may_fail : BackendError → Type 0) (store : Objects) where
     listed : (parents : Parents) → Completes store parents → (c : ReadCommit) → not (node_of c == 0) ≡ true → (r : Result (Vec ReadCommit Global) BackendError) → ReadsAll c.commit.parents r
         → (xs : List ReadCommit) → YieldsOk (DrainsTo becomes steps) r xs → map node_of xs ≡ id_graph parents (node_of c)
     listed parents complete c here (Err e) read xs d = absurd d
-    listed parents complete c here (Ok v) (ids, stored, none) xs d = listed_from parents complete c here v xs (drained becomes steps items v xs d) ids stored
+    listed parents complete c here (Ok v) (ids, stored, none) xs d = listed_from parents complete c here v xs (drained becomes steps v v.items xs (items v) d) ids stored
 
-  pub implements_by : {F N R : Type 0} (ids : Shared F (Bor ReadCommit × Unit {0}) (Result (List ℕ) AllocError)) (lists : Mut N (Bor ReadCommit × Unit {0}) R) (yields : R → List ReadCommit → Type 0) (id_fn : F) (neighbors_fn : N) (parents : Parents)
+  pub implements_commits : {F N R : Type 0} (ids : Shared F (Bor ReadCommit × Unit {0}) (Result (List ℕ) AllocError)) (lists : Mut N (Bor ReadCommit × Unit {0}) R) (yields : R → List ReadCommit → Type 0) (id_fn : F) (neighbors_fn : N) (parents : Parents)
       → ((x : ReadCommit) (i : List ℕ) → ReturnsId ids id_fn x i → i ≡ x.id)
       → ((a : Bor ReadCommit × Unit {0}) (r : R) (f : N) → Called lists neighbors_fn a r f → ((xs : List ReadCommit) → not (node_of a.0.now == 0) ≡ true → yields r xs → map node_of xs ≡ id_graph parents (node_of a.0.now)) × (f ≡ neighbors_fn))
       → Implements (walk_of parents) bytes_eq ids lists yields id_fn neighbors_fn
-  implements_by ids lists yields id_fn neighbors_fn parents tells reads = record {
-    closed = λ a h b inside.
-        let r = Contains-from_map number (parents (list_of_number a)) b inside in
-        subst (λ x. not (x == 0) ≡ true) (sym r.1) (number_is_node r.0);
-    apart = λ i j h k. number_eq i j;
-    ids_match = λ x i here told. ap number (tells x i told) ∙ sym (known_node x here).0;
-    neighbors = always_returns_same lists _ neighbors_fn reads;
-  }
+  implements_commits ids lists yields id_fn neighbors_fn parents same_id reads =
+      implements_by (walk_of parents) bytes_eq ids lists yields id_fn neighbors_fn
+      (λ a h b inside.
+      let r = Contains-from_map number (parents (list_of_number a)) b inside in
+      subst (λ x. not (x == 0) ≡ true) (sym r.1) (number_is_node r.0))
+      (λ i j h k. number_eq i j) (λ x i here returned. ap number (same_id x i returned) ∙ sym (known_node x here).0) reads
 
   module _ {S : Type 0} (becomes : Vec ReadCommit Global → S → Type 0) (steps : S → Option ReadCommit → S → Type 0)
       (items : (v : Vec ReadCommit Global) (it : S) → becomes v it → YieldsList steps (λ y. y) it v.items) where
@@ -192,8 +160,8 @@ module _ (may_fail : BackendError → Type 0) (store : Objects) where
         → ((x : ReadCommit) (i : List ℕ) → ReturnsId ids id_fn x i → i ≡ x.id)
         → ((a : Bor ReadCommit × Unit {0}) (r : Result (Vec ReadCommit Global) BackendError) (f : N) → Called lists neighbors_fn a r f → ReadsAll a.0.now.commit.parents r × (f ≡ neighbors_fn))
         → (parents : Parents) → Completes store parents → Implements (walk_of parents) bytes_eq ids lists (YieldsOk (DrainsTo becomes steps)) id_fn neighbors_fn
-    implements ids lists id_fn neighbors_fn tells reads parents complete =
-        implements_by ids lists (YieldsOk (DrainsTo becomes steps)) id_fn neighbors_fn parents tells (λ a r f h. let k = reads a r f h in (λ xs here d. listed becomes steps items parents complete a.0.now here r k.0 xs d, k.1))
+    implements ids lists id_fn neighbors_fn same_id reads parents complete =
+        implements_commits ids lists (YieldsOk (DrainsTo becomes steps)) id_fn neighbors_fn parents same_id (λ a r f h. let k = reads a r f h in (λ xs here d. listed becomes steps items parents complete a.0.now here r k.0 xs d, k.1))
 
   -- an error that the closure may return for a commit is one of reading its parents
   pub may_read : {N : Type 0} (lists : Mut N (Bor ReadCommit × Unit {0}) (Result (Vec ReadCommit Global) BackendError)) (neighbors_fn : N)

@@ -20,19 +20,20 @@ use Rattle.jj_dag.specs.Graph.{ReachedFrom}
 use Rattle.jj_dag.specs.NodeGraph.{NodePath}
 use Rattle.jj_dag.specs.Walk.{AreNodes, DrainsTo}
 use Rattle.jj_dag.proofs.ClosureGraphs.{may_return_says}
-use Rattle.jj_dag.proofs.FailingWalks.{Contains-from_sound, Contains-sound}
+use Rattle.jj_dag.proofs.FailingWalks.{Contains-from_ok_items, Contains-ok_items}
 use Rattle.jj_dag.proofs.ListNumbers.{list_of_number, list_of_number-number, number}
 use Rattle.jj_dag.proofs.NodeGraphs.{Contains-map, one_node}
 use Rattle.jj_dag.proofs.Walking.{drained_are}
 use Rattle.jj_walks.specs.Expansions.{Expansion, ImplementsItems, IsRun, MayList, item_of}
 use Rattle.jj_walks.proofs.Expanding.{at_first, first_or_rest, in_map, in_rest, numbered_back}
-use Rattle.jj_walks.proofs.DfsOkRuns.{answer_of, error_place, errors_given, given_of, given_once, items_given, reached, returned, start_errors_given, starts_given}
+use Rattle.jj_walks.proofs.DfsOkRuns.{expansion_of, error_index, errors_given, yielded_of, yielded_once, items_yielded, reached, returned, start_errors_given, starts_given}
 use Rattle.store_walks.specs.Histories.{AreFoundAncestors, Completes, IsErrorBelow, IsFoundOrFailed, Parents, found_ids}
 use Rattle.store_walks.specs.ReadCommits.{IsStored, id_of}
 use Rattle.store_walks.specs.ReadResults.{AreReads, reads_left}
 use Rattle.store_walks.specs.declared.read_commit.ReadCommit.{ReadCommit}
 use Rattle.store_walks.specs.declared.reads.Reads.{Reads}
-use Rattle.store_walks.proofs.Commits.{error_at, error_below, id_graph, implements_by, known_node, listed_commits, node_of, node_reached, number_is_node, stored_node, walk_of}
+use Rattle.jj_walks.proofs.Callers.{number_is_node}
+use Rattle.store_walks.proofs.Commits.{error_at, error_below, id_graph, implements_commits, known_node, listed_commits, node_of, node_reached, stored_node, walk_of}
 use Rattle.store_walks.proofs.ReadResults.{Item, reads_each, reads_errors, reads_sound, reads_stored, reads_whole}
 
 abbrev becomes : Reads → Reads → Type 0
@@ -91,7 +92,7 @@ module _ (may_fail : BackendError → Type 0) (store : Objects) where
 
   -- Closures that return a commit's id and read its parents.
   module _ {F N : Type 0} (ids : Shared F (Bor ReadCommit × Unit {0}) (Result (List ℕ) AllocError)) (lists : Mut N (Bor ReadCommit × Unit {0}) Reads) (id_fn : F) (neighbors_fn : N)
-      (tells : (x : ReadCommit) (i : List ℕ) → ReturnsId ids id_fn x i → i ≡ x.id)
+      (same_id : (x : ReadCommit) (i : List ℕ) → ReturnsId ids id_fn x i → i ≡ x.id)
       (reads : (a : Bor ReadCommit × Unit {0}) (r : Reads) (f : N) → Called lists neighbors_fn a r f → AreReads may_fail store a.0.now.commit.parents (reads_left r) × (f ≡ neighbors_fn)) where
     listed_parents : (parents : Parents) → Completes store parents → (c : ReadCommit) → not (node c == 0) ≡ true → (r : Reads) → AreReads may_fail store c.commit.parents (reads_left r)
         → (xs : List ReadCommit) → yields r (map (λ x. Ok x) xs) → map node xs ≡ id_graph parents (node c)
@@ -111,7 +112,7 @@ module _ (may_fail : BackendError → Type 0) (store : Objects) where
 
     items_implemented : (parents : Parents) → Completes store parents → ImplementsItems (walk_of may_fail store parents) bytes_eq ids lists yields id_fn neighbors_fn
     items_implemented parents complete = record {
-      complete = implements_by may_fail store ids lists (λ r xs. yields r (map (λ x. Ok x) xs)) id_fn neighbors_fn parents tells
+      complete = implements_commits may_fail store ids lists (λ r xs. yields r (map (λ x. Ok x) xs)) id_fn neighbors_fn parents same_id
           (λ a r f h. let k = reads a r f h in (λ xs here d. listed_parents parents complete a.0.now here r k.0 xs d, k.1));
       partial = always_returns_same lists _ neighbors_fn (λ a r f h.
           let k = reads a r f h in (
@@ -129,14 +130,14 @@ module _ (may_fail : BackendError → Type 0) (store : Objects) where
     module _ (all : List (List ℕ)) (starts found : List Item) (start_reads : AreReads may_fail store all starts) (run : IsRun bytes_eq ids lists yields id_fn neighbors_fn starts found) where
       start_nodes : (parents : Parents) → AreNodes (walk_of may_fail store parents) (ok_items (numbers starts))
       start_nodes parents a h =
-          let back = numbered_back node starts a (Contains-from_sound (numbers starts) a h) in
+          let back = numbered_back node starts a (Contains-from_ok_items (numbers starts) a h) in
           let k = reads_sound may_fail store all starts start_reads back.0 back.1 in
           subst (λ (n : ℕ). not (n == 0) ≡ true) (sym (stored_node may_fail store back.0 k.1) ∙ back.2) (number_is_node back.0.id)
 
       commit_reached : (parents : Parents) → Completes store parents → (c : ReadCommit) → Contains found (Ok c) → ReachedFrom (id_graph parents) (map number all) (node c)
       commit_reached parents complete c at =
-          let r = reached bytes_eq ids lists yields id_fn neighbors_fn starts found run (walk_of may_fail store parents) (items_implemented parents complete) (start_nodes parents) (node c) (Contains-sound (numbers found) (node c) (in_map (item_of node) found (Ok c) at)) in
-          let back = numbered_back node starts r.0 (Contains-from_sound (numbers starts) r.0 r.1) in
+          let r = reached bytes_eq ids lists yields id_fn neighbors_fn starts found run (walk_of may_fail store parents) (items_implemented parents complete) (start_nodes parents) (node c) (Contains-ok_items (numbers found) (node c) (in_map (item_of node) found (Ok c) at)) in
+          let back = numbered_back node starts r.0 (Contains-from_ok_items (numbers starts) r.0 r.1) in
           let k = reads_sound may_fail store all starts start_reads back.0 back.1 in
           (r.0, subst (λ (n : ℕ). Contains (map number all) n) (sym (stored_node may_fail store back.0 k.1) ∙ back.2) (Contains-map number all back.0.id k.0), r.2)
 
@@ -162,25 +163,25 @@ module _ (may_fail : BackendError → Type 0) (store : Objects) where
 
       parent_found : (c : ReadCommit) (id : List ℕ) → Contains found (Ok c) → Contains c.commit.parents id → IsFoundOrFailed store may_fail found id
       parent_found c id at inside =
-          let own = answer_of bytes_eq ids lists yields id_fn neighbors_fn starts found run (walk_of may_fail store known_parents) (items_implemented known_parents known_completes) (start_nodes known_parents) c at in
+          let own = expansion_of bytes_eq ids lists yields id_fn neighbors_fn starts found run (walk_of may_fail store known_parents) (items_implemented known_parents known_completes) (start_nodes known_parents) c at in
           found_or_failed own.0.node.commit.parents own.0.items (answered_reads own.0 (returned bytes_eq ids lists yields id_fn neighbors_fn starts found run (walk_of may_fail store known_parents) (items_implemented known_parents known_completes) (start_nodes known_parents) own.0 own.1))
-          (λ y h. items_given bytes_eq ids lists yields id_fn neighbors_fn starts found run (walk_of may_fail store known_parents) (items_implemented known_parents known_completes) (start_nodes known_parents) own.0 own.1 y h) (λ e h. errors_given bytes_eq ids lists yields id_fn neighbors_fn starts found run (walk_of may_fail store known_parents) (items_implemented known_parents known_completes) (start_nodes known_parents) own.0 own.1 e h) id (subst (λ (x : ReadCommit). Contains x.commit.parents id) (sym own.2) inside)
+          (λ y h. items_yielded bytes_eq ids lists yields id_fn neighbors_fn starts found run (walk_of may_fail store known_parents) (items_implemented known_parents known_completes) (start_nodes known_parents) own.0 own.1 y h) (λ e h. errors_given bytes_eq ids lists yields id_fn neighbors_fn starts found run (walk_of may_fail store known_parents) (items_implemented known_parents known_completes) (start_nodes known_parents) own.0 own.1 e h) id (subst (λ (x : ReadCommit). Contains x.commit.parents id) (sym own.2) inside)
 
       error_cause : (e : BackendError) → Contains found (Err e) → IsErrorBelow store may_fail all e
       error_cause e h =
           ⊎_elim (λ start. error_at may_fail store all all e (λ id inside. inside) (reads_errors may_fail store all starts start_reads e start))
           (λ (x, own, inside).
           error_below may_fail store all x.node e
-          (λ parents complete. commit_reached parents complete x.node (given_of bytes_eq ids lists yields id_fn neighbors_fn starts found run (walk_of may_fail store known_parents) (items_implemented known_parents known_completes) (start_nodes known_parents) x own))
+          (λ parents complete. commit_reached parents complete x.node (yielded_of bytes_eq ids lists yields id_fn neighbors_fn starts found run (walk_of may_fail store known_parents) (items_implemented known_parents known_completes) (start_nodes known_parents) x own))
           (reads_errors may_fail store x.node.commit.parents x.items (answered_reads x (returned bytes_eq ids lists yields id_fn neighbors_fn starts found run (walk_of may_fail store known_parents) (items_implemented known_parents known_completes) (start_nodes known_parents) x own)) e inside))
-          (error_place bytes_eq ids lists yields id_fn neighbors_fn starts found run (walk_of may_fail store known_parents) (items_implemented known_parents known_completes) (start_nodes known_parents) e h)
+          (error_index bytes_eq ids lists yields id_fn neighbors_fn starts found run (walk_of may_fail store known_parents) (items_implemented known_parents known_completes) (start_nodes known_parents) e h)
 
       -- without an error all commits on a path from a found one are found
       path_found : ((e : BackendError) → Contains found (Err e) → ⊥) → (parents : Parents) → Completes store parents → (n : ℕ) (a b : List ℕ) → Contains (found_ids found) a → NodePath parents a b n → Contains (found_ids found) b
       path_found none parents complete zero a b h same = subst (λ (y : List ℕ). Contains (found_ids found) y) same h
       path_found none parents complete (suc n) a b h (c, edge, rest) =
           let back = id_back (ok_items found) a h in
-          let at = Contains-from_sound found back.0 back.1 in
+          let at = Contains-from_ok_items found back.0 back.1 in
           let listed : parents a ≡ back.0.commit.parents = ap parents (sym back.2) ∙ complete back.0.id back.0.commit (found_stored back.0 at) in
           let inside : Contains back.0.commit.parents c = subst (λ (l : List (List ℕ)). Contains l c) listed edge in
           ⊎_elim (λ here. path_found none parents complete n c b here rest) (λ (e, failed, fails). absurd (none e failed)) (parent_found back.0 c at inside)
@@ -189,7 +190,7 @@ module _ (may_fail : BackendError → Type 0) (store : Objects) where
       are_found_ancestors = record {
         stored = found_stored;
         reached = λ c at parents complete. (node_reached may_fail store parents all c (commit_reached parents complete c at)).0;
-        once = distinct_ids (found_ids found) (subst (λ (l : List ℕ). IsDistinct eqb l) (stored_numbers found found_stored) (given_once bytes_eq ids lists yields id_fn neighbors_fn starts found run (walk_of may_fail store known_parents) (items_implemented known_parents known_completes) (start_nodes known_parents)));
+        once = distinct_ids (found_ids found) (subst (λ (l : List ℕ). IsDistinct eqb l) (stored_numbers found found_stored) (yielded_once bytes_eq ids lists yields id_fn neighbors_fn starts found run (walk_of may_fail store known_parents) (items_implemented known_parents known_completes) (start_nodes known_parents)));
         errors = error_cause;
         starts_read = start_found;
         parents_read = parent_found;
@@ -203,4 +204,4 @@ module _ (may_fail : BackendError → Type 0) (store : Objects) where
       → ((x : ReadCommit) (i : List ℕ) → ReturnsId ids id_fn x i → i ≡ x.id)
       → ((a : Bor ReadCommit × Unit {0}) (r : Reads) (f : N) → Called lists neighbors_fn a r f → AreReads may_fail store a.0.now.commit.parents (reads_left r) × (f ≡ neighbors_fn))
       → AreReads may_fail store all starts → AreFoundAncestors store may_fail all found
-  found_by_run ids lists id_fn neighbors_fn all starts found run tells reads start_reads = are_found_ancestors ids lists id_fn neighbors_fn tells reads all starts found start_reads run
+  found_by_run ids lists id_fn neighbors_fn all starts found run same_id reads start_reads = are_found_ancestors ids lists id_fn neighbors_fn same_id reads all starts found start_reads run

@@ -20,7 +20,7 @@ use Rattle.jj_dag.specs.Walk.{DrainsTo}
 use Rattle.jj_dag.specs.declared.list_or_error.ListOrError.{ListOrError}
 use Rattle.jj_dag.proofs.ClosureGraphs.{may_return_says}
 use Rattle.jj_dag.proofs.ListNumbers.{list_of_number, list_of_number-number, number}
-use Rattle.jj_dag.proofs.ListsOrErrors.{error_answered, list_answered}
+use Rattle.jj_dag.proofs.ListsOrErrors.{error_yielded, list_yielded}
 use Rattle.jj_dag.proofs.NodeGraphs.{cycle_node}
 use Rattle.store_walks.specs.Histories.{Completes, InEachHistory, IsHistoryError, Parents}
 use Rattle.store_walks.specs.HistoryItems.{AreItemsOf, ReadsHistory, vec_becomes}
@@ -28,7 +28,8 @@ use Rattle.store_walks.specs.ReadCommits.{IsStored, id_of}
 use Rattle.store_walks.specs.declared.order.HistoryError.{HistoryError}
 use Rattle.store_walks.specs.declared.order.HistoryError.TheVariants.{Read, Cycle}
 use Rattle.store_walks.specs.declared.read_commit.ReadCommit.{ReadCommit}
-use Rattle.store_walks.proofs.Commits.{error_at, error_below, id_graph, implements_by, listed_from, node_of, node_reached, vec_drained, walk_of}
+use Rattle.jj_walks.proofs.Callers.{vec_drained}
+use Rattle.store_walks.proofs.Commits.{error_at, error_below, id_graph, implements_commits, listed_from, node_of, node_reached, walk_of}
 
 abbrev pub Items : Type 0
 Items = ListOrError (IntoIter ReadCommit Global) HistoryError
@@ -46,7 +47,7 @@ module _ (may_fail : BackendError → Type 0) (store : Objects) where
 
   -- the yielded items were read
   pub items_read : (ids : List (List ℕ)) (s : Items) → AreItemsOf may_fail store ids s → (xs : List ReadCommit) → YieldsItems s xs → AreRead ids xs
-  items_read ids s (read, reads, stands) xs d = of_list read reads (list_answered vec_becomes into_iter_steps read s stands xs d)
+  items_read ids s (read, reads, stands) xs d = of_list read reads (list_yielded vec_becomes into_iter_steps read s stands xs d)
     where
       of_list : (r : Result (Vec ReadCommit Global) HistoryError) → ReadsHistory may_fail store ids r → YieldsOk (DrainsTo vec_becomes into_iter_steps) r xs → AreRead ids xs
       of_list (Ok v) (same, stored) (it, begins, drains) = (v, vec_drained v xs (it, (begins.0, begins.1), drains), same, stored)
@@ -54,14 +55,14 @@ module _ (may_fail : BackendError → Type 0) (store : Objects) where
 
   -- and their error is one of reading
   pub items_error : (ids : List (List ℕ)) (s : Items) → AreItemsOf may_fail store ids s → (e : HistoryError) → FailsWith s e → ReadsHistory may_fail store ids (Err e)
-  items_error ids s (read, reads, stands) e fails = subst (ReadsHistory may_fail store ids) (error_answered vec_becomes into_iter_steps read s stands e fails) reads
+  items_error ids s (read, reads, stands) e fails = subst (ReadsHistory may_fail store ids) (error_yielded vec_becomes into_iter_steps read s stands e fails) reads
 
   pub implements_items : {F N : Type 0} (ids : Shared F (Bor ReadCommit × Unit {0}) (Result (List ℕ) AllocError)) (lists : Mut N (Bor ReadCommit × Unit {0}) Items) (id_fn : F) (neighbors_fn : N)
       → ((x : ReadCommit) (i : List ℕ) → ReturnsId ids id_fn x i → i ≡ x.id)
       → ((a : Bor ReadCommit × Unit {0}) (r : Items) (f : N) → Called lists neighbors_fn a r f → AreItemsOf may_fail store a.0.now.commit.parents r × (f ≡ neighbors_fn))
       → (parents : Parents) → Completes store parents → Implements (walk_of may_fail store parents) bytes_eq ids lists YieldsItems id_fn neighbors_fn
-  implements_items ids lists id_fn neighbors_fn tells reads parents complete =
-      implements_by may_fail store ids lists YieldsItems id_fn neighbors_fn parents tells (λ a r f h.
+  implements_items ids lists id_fn neighbors_fn same_id reads parents complete =
+      implements_commits may_fail store ids lists YieldsItems id_fn neighbors_fn parents same_id (λ a r f h.
       let k = reads a r f h in (
         λ xs here d.
             let q = items_read a.0.now.commit.parents r k.0 xs d in

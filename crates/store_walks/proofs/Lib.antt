@@ -3,6 +3,5 @@ pub mod Commits
 pub mod HistoryItems
 pub mod ReadResults
 pub mod FoundAncestors
-pub mod ChildFirst
 pub mod LogOrders
 pub mod LogErrors

@@ -8,6 +8,7 @@ use Rattle.std.proofs.lemmas.Cmp.{nat_list_eq_equiv}
 use Rattle.std.proofs.lemmas.List.{map-append, reverse-append}
 use denote.Ref.{Bor}
 use Rattle.jj_dag.proofs.FailingOrders.{Yields-push}
+use Rattle.jj_dag.proofs.Wrapped.{ok_same}
 use Rattle.jj_walks.specs.declared.grouped.GroupedGraphError.{GroupedGraphError}
 use Rattle.jj_walks.specs.declared.grouped.GroupedGraphError.TheVariants.{Input, DuplicateId, MissingNode, NotChildFirst, Memory}
 use Rattle.jj_walks.specs.declared.grouped.GroupedNodes.{GroupedNodes}
@@ -16,13 +17,14 @@ use Rattle.jj_walks.specs.GroupedLaw.{Explains, IsUnread}
 use Rattle.jj_walks.specs.GroupedOrders.{AreApart, IsWhole, has_node}
 use Rattle.jj_walks.specs.GroupedSteps.{IsEntryOf, Item}
 use Rattle.jj_walks.specs.PendingNodes.{listed_item}
+use Rattle.jj_walks.proofs.DistinctLists.{nothing}
 use Rattle.jj_walks.proofs.GroupedOrders.{apart-rest}
+use Rattle.jj_walks.proofs.OkLists.{no_error_in, split_oks}
 use Rattle.jj_walks.proofs.WholeGroupedRuns.{fails-for-cause}
-use Rattle.store_walks.specs.Logs.{AreLogItems, StopsWith, edges_to, log_node, log_nodes}
+use Rattle.store_walks.specs.Logs.{AreLogItems, StopsWith, direct_edges, log_node, log_nodes}
 use Rattle.store_walks.specs.declared.order.HistoryError.{HistoryError}
 use Rattle.store_walks.specs.declared.read_commit.ReadCommit.{ReadCommit}
-use Rattle.store_walks.proofs.ChildFirst.{nothing}
-use Rattle.store_walks.proofs.LogOrders.{entries_are, same_oks}
+use Rattle.store_walks.proofs.LogOrders.{entries_are}
 
 abbrev Node : Type 0
 Node = Entry ReadCommit (List ℕ)
@@ -33,35 +35,16 @@ Read = Item ReadCommit (List ℕ)
 abbrev Found : Type 0
 Found = Result Read HistoryError
 
-none_failed : (front : List Found) (e : HistoryError) (rest : List Found) (all : List Read) → map (λ x. Ok x) all ≡ (front ++ Err e ∷ []) ++ rest → ⊥
-none_failed [] e rest [] h = cc
-none_failed [] e rest (x ∷ all) h = cc
-none_failed (y ∷ front) e rest [] h = cc
-none_failed (y ∷ front) e rest (x ∷ all) h =
-    let tail : map (λ z. Ok z) all ≡ (front ++ Err e ∷ []) ++ rest = cc in
-    none_failed front e rest all tail
-
-split_oks : (front : List Read) (x : Read) (rest : List Found) (all : List Read) → map {B = Found} (λ y. Ok y) all ≡ (map (λ y. Ok y) front ++ Ok x ∷ []) ++ rest → (back : List Read) × (all ≡ front ++ x ∷ back)
-split_oks [] x rest [] h = absurd cc
-split_oks [] x rest (y ∷ all) h =
-    let first : y ≡ x = cc in
-    (all, λ i. first i ∷ all)
-split_oks (f ∷ front) x rest [] h = absurd cc
-split_oks (f ∷ front) x rest (y ∷ all) h =
-    let first : y ≡ f = cc in
-    let more = split_oks front x rest all cc in
-    (more.0, λ i. first i ∷ more.1 i)
-
 -- the commits of the items up to one, and its own
-split_commits : (front : List Read) (x : Read) (back : List Read) (commits : List ReadCommit) → map listed_item (front ++ x ∷ back) ≡ map (λ d. (d, edges_to d.commit.parents)) commits
-    → (before : List ReadCommit) × (c : ReadCommit) × (after : List ReadCommit) × (commits ≡ before ++ c ∷ after) × (map listed_item front ≡ map (λ d. (d, edges_to d.commit.parents)) before) × (listed_item x ≡ (c, edges_to c.commit.parents))
+split_commits : (front : List Read) (x : Read) (back : List Read) (commits : List ReadCommit) → map listed_item (front ++ x ∷ back) ≡ map (λ d. (d, direct_edges d.commit.parents)) commits
+    → (before : List ReadCommit) × (c : ReadCommit) × (after : List ReadCommit) × (commits ≡ before ++ c ∷ after) × (map listed_item front ≡ map (λ d. (d, direct_edges d.commit.parents)) before) × (listed_item x ≡ (c, direct_edges c.commit.parents))
 split_commits [] x back [] h = absurd cc
 split_commits [] x back (c ∷ commits) h =
-    let first : listed_item x ≡ (c, edges_to c.commit.parents) = cc in
+    let first : listed_item x ≡ (c, direct_edges c.commit.parents) = cc in
     ([], c, commits, refl, refl, first)
 split_commits (f ∷ front) x back [] h = absurd cc
 split_commits (f ∷ front) x back (d ∷ commits) h =
-    let first : listed_item f ≡ (d, edges_to d.commit.parents) = cc in
+    let first : listed_item f ≡ (d, direct_edges d.commit.parents) = cc in
     let (before, c, after, split, same, own) = split_commits front x back commits cc in
     (d ∷ before, c, after, ap (λ l. d ∷ l) split, (λ i. first i ∷ same i), own)
 
@@ -79,7 +62,7 @@ module _ {S F : Type 0} {returns : Shared F (Bor ReadCommit × Unit {0}) (Bor (L
   -- an input that has ended was whole
   all_read : (nodes : List Read) (entries : List Node) (at t : S) → Yields steps input (map (λ x. Ok x) nodes) at → steps at None t → AllZip (IsEntryOf returns bytes_eq as_id) nodes entries → IsWhole bytes_eq (reverse entries)
   all_read nodes entries at t read step have =
-      let same = same_oks {E = HistoryError} nodes are.0 (drained (map (λ x. Ok x) nodes) (t, (at, read, step)) ∙ are.1) in
+      let same = ok_same HistoryError nodes are.0 (drained (map (λ x. Ok x) nodes) (t, (at, read, step)) ∙ are.1) in
       let of_commits = entries_are returns as_id says commits nodes entries (ap (map listed_item) same ∙ are.2) have in
       subst (λ (l : List Node). IsWhole bytes_eq (reverse l)) (sym of_commits) whole
 
@@ -104,7 +87,7 @@ module _ {S F : Type 0} {returns : Shared F (Bor ReadCommit × Unit {0}) (Bor (L
           → Explains returns bytes_eq steps as_id [] entries at e → e ≡ Memory
       by_cause nodes entries at read have (Input e) (t, step) =
           let (rest, first) = begun (map (λ x. Ok x) nodes ++ Err e ∷ []) t (Yields-push steps (map (λ x. Ok x) nodes) (Err e) input at t read step) in
-          absurd (none_failed (map (λ x. Ok x) nodes) e rest are.0 (sym are.1 ∙ first))
+          absurd (no_error_in (map (λ x. Ok x) nodes) e rest are.0 (sym are.1 ∙ first))
       by_cause nodes entries at read have DuplicateId (t, node, entry, step, one, twice) = absurd (never_twice nodes entries node entry at t read step have one twice)
       by_cause nodes entries at read have MissingNode (t, step, lacks) = absurd (lacks (all_read nodes entries at t read step have) (λ i inside. nothing inside))
       by_cause nodes entries at read have NotChildFirst (t, step, unordered) = absurd (unordered (all_read nodes entries at t read step have))

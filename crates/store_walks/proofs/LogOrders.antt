@@ -6,7 +6,7 @@ use Rattle.std.specs.List.{AllZip, Contains, list_any}
 use Rattle.std.specs.Str.{bytes_eq}
 use Rattle.std.proofs.lemmas.Bool.{or_cases, or_left, or_right}
 use Rattle.std.proofs.lemmas.Cmp.{nat_list_eq_equiv}
-use Rattle.std.proofs.lemmas.List.{map-append, reverse-append}
+use Rattle.std.proofs.lemmas.List.{map-append, reverse-append, reverse-reverse}
 use Rattle.std.proofs.lemmas.List.Elements.{Contains-append_right, Contains-get_or}
 use Rattle.std.proofs.lemmas.Slice.Eq.{bytes_eq-Decides}
 use denote.Ref.{Bor}
@@ -14,6 +14,7 @@ use Rattle.jj_backend.specs.Objects.{Objects}
 use Rattle.jj_backend.specs.Records.{CommitValue}
 use Rattle.jj_dag.specs.NodeGraph.{IsChildFirstOrder, IsNodeBefore, NodePath, ReachesNode, StrictlyReachesNode}
 use Rattle.jj_dag.proofs.NodeGraphs.{reaches_more}
+use Rattle.jj_dag.proofs.Wrapped.{ok_same}
 use Rattle.jj_walks.specs.declared.graph.GraphEdge.{GraphEdge}
 use Rattle.jj_walks.specs.Grouped.{AreReadChildFirst, Entry, leads_to, targets_of}
 use Rattle.jj_walks.specs.GroupedOrders.{AreApart, AreGrouped, IsGroupedOrder, IsWhole, MayFollow, has_node, is_ready, newest_edges}
@@ -23,15 +24,15 @@ use Rattle.jj_walks.specs.GroupedLaw.{IsUnread}
 use Rattle.jj_walks.specs.declared.grouped.GroupedNodes.{GroupedNodes}
 use Rattle.jj_walks.proofs.WholeGroupedRuns.{yields-grouped-orders}
 use Rattle.std.specs.Iterator.{Drains}
+use Rattle.jj_walks.proofs.DistinctLists.{HasNoRepeat, all_at, back_in_map, before_turned, false_from, map_turned, no_repeat, not_again, not_before, nothing, once_turned, split_at, same_all, unturned}
 use Rattle.jj_walks.proofs.Expanding.{at_first, first_or_rest, in_map, in_rest, in_reverse}
 use Rattle.store_walks.specs.Histories.{Completes, IsGroupedHistory, IsHistoryOrder, Parents}
-use Rattle.store_walks.specs.Logs.{AreLogItems, YieldsNodes, edges_to, log_node, log_nodes}
+use Rattle.store_walks.specs.Logs.{AreLogItems, YieldsLogNodes, direct_edges, log_node, log_nodes}
 use Rattle.std.specs.Global.{Global}
 use Rattle.std.specs.declared.vec.Vec.{Vec}
 use Rattle.store_walks.specs.declared.order.HistoryError.{HistoryError}
 use Rattle.store_walks.specs.ReadCommits.{IsStored, id_of}
 use Rattle.store_walks.specs.declared.read_commit.ReadCommit.{ReadCommit}
-use Rattle.store_walks.proofs.ChildFirst.{HasNoRepeat, all_at, back_in_map, before_turned, no_repeat, not_again, not_before, nothing, once_turned, split_at, same_all, unturned}
 
 abbrev Node : Type 0
 Node = Entry ReadCommit (List ℕ)
@@ -41,20 +42,16 @@ Node = Entry ReadCommit (List ℕ)
 same_id : (a b : List ℕ) → bytes_eq a b ≡ true → a ≡ b
 same_id a b h = (bytes_eq-Decides a b).0 h
 
-leads_in : (ids : List (List ℕ)) (i : List ℕ) → list_any (leads_to bytes_eq i) (edges_to ids) ≡ true → Contains ids i
+leads_in : (ids : List (List ℕ)) (i : List ℕ) → list_any (leads_to bytes_eq i) (direct_edges ids) ≡ true → Contains ids i
 leads_in [] i h = absurd cc
 leads_in (a ∷ ids) i h =
-    ⊎_elim (λ here. subst (λ z. Contains (a ∷ ids) z) (same_id a i here) (at_first a ids)) (λ there. in_rest a ids i (leads_in ids i there)) (or_cases (bytes_eq a i) (list_any (leads_to bytes_eq i) (edges_to ids)) h)
+    ⊎_elim (λ here. subst (λ z. Contains (a ∷ ids) z) (same_id a i here) (at_first a ids)) (λ there. in_rest a ids i (leads_in ids i there)) (or_cases (bytes_eq a i) (list_any (leads_to bytes_eq i) (direct_edges ids)) h)
 
-leads_out : (ids : List (List ℕ)) (i : List ℕ) → Contains ids i → list_any (leads_to bytes_eq i) (edges_to ids) ≡ true
+leads_out : (ids : List (List ℕ)) (i : List ℕ) → Contains ids i → list_any (leads_to bytes_eq i) (direct_edges ids) ≡ true
 leads_out [] i h = nothing h
 leads_out (a ∷ ids) i h =
-    ⊎_elim (λ here. or_left (bytes_eq a i) (list_any (leads_to bytes_eq i) (edges_to ids)) ((bytes_eq-Decides a i).1 here))
-    (λ there. or_right (bytes_eq a i) (list_any (leads_to bytes_eq i) (edges_to ids)) (leads_out ids i there)) (first_or_rest a ids i h)
-
-false_from : (b : Bool) → (b ≡ true → ⊥) → b ≡ false
-false_from true k = absurd (k refl)
-false_from false k = refl
+    ⊎_elim (λ here. or_left (bytes_eq a i) (list_any (leads_to bytes_eq i) (direct_edges ids)) ((bytes_eq-Decides a i).1 here))
+    (λ there. or_right (bytes_eq a i) (list_any (leads_to bytes_eq i) (direct_edges ids)) (leads_out ids i there)) (first_or_rest a ids i h)
 
 -- nodes of commits, the newest first
 abbrev nodes : List ReadCommit → List Node
@@ -71,15 +68,6 @@ id_has [] i h = nothing h
 id_has (c ∷ newest) i h =
     ⊎_elim (λ here. or_left (bytes_eq c.id i) (has_node bytes_eq (nodes newest) i) ((bytes_eq-Decides c.id i).1 here))
     (λ there. or_right (bytes_eq c.id i) (has_node bytes_eq (nodes newest) i) (id_has newest i there)) (first_or_rest c.id (map id_of newest) i h)
-
-map_turned : {A B : Type 0} (f : A → B) (xs : List A) → map f (reverse xs) ≡ reverse (map f xs)
-map_turned f [] = refl
-map_turned f (x ∷ xs) =
-    ap (map f) (reverse-append (x ∷ []) xs) ∙ map-append f (reverse xs) (x ∷ []) ∙ ap (λ l. l ++ f x ∷ []) (map_turned f xs) ∙ sym (reverse-append (f x ∷ []) (map f xs))
-
-turned_twice : {A : Type 0} (xs : List A) → reverse (reverse xs) ≡ xs
-turned_twice [] = refl
-turned_twice (x ∷ xs) = ap reverse (reverse-append (x ∷ []) xs) ∙ reverse-append (reverse xs) (x ∷ []) ∙ ap (λ l. x ∷ l) (turned_twice xs)
 
 newest_of : (order : List ReadCommit) → log_nodes order ≡ nodes (reverse order)
 newest_of order = sym (map_turned log_node order)
@@ -99,8 +87,8 @@ module _ (store : Objects) (parents : Parents) (complete : Completes store paren
       (child_first.all i).1 (reaches_more parents ids c.id i ((child_first.all c.id).0 (in_map id_of read c here)) (subst (λ (l : List (List ℕ)). Contains l i) (sym (its_parents c here)) inside))
 
   -- none has an edge to itself or an earlier one
-  no_edge : (front back : List ReadCommit) (c f : ReadCommit) → read ≡ front ++ c ∷ back → Contains (front ++ c ∷ []) f → list_any (leads_to bytes_eq f.id) (edges_to c.commit.parents) ≡ false
-  no_edge front back c f split earlier = false_from (list_any (leads_to bytes_eq f.id) (edges_to c.commit.parents)) (λ leads.
+  no_edge : (front back : List ReadCommit) (c f : ReadCommit) → read ≡ front ++ c ∷ back → Contains (front ++ c ∷ []) f → list_any (leads_to bytes_eq f.id) (direct_edges c.commit.parents) ≡ false
+  no_edge front back c f split earlier = false_from (list_any (leads_to bytes_eq f.id) (direct_edges c.commit.parents)) (λ leads.
       let here : Contains read c = subst (λ (l : List ReadCommit). Contains l c) (sym split) (Contains-append_right front (c ∷ back) c (at_first c back)) in
       let inside : Contains (parents c.id) f.id = subst (λ (l : List (List ℕ)). Contains l f.id) (sym (its_parents c here)) (leads_in c.commit.parents f.id leads) in
       let (front2, back2, split2, after) = child_first.before c.id f.id (in_map id_of read c here) (0, (f.id, inside, refl)) in
@@ -122,9 +110,9 @@ module _ (store : Objects) (parents : Parents) (complete : Completes store paren
       let earlier = has_id (reverse front) c.id (subst (λ (l : List Node). has_node bytes_eq l c.id ≡ true) (newest_of front) has) in
       not_before (map id_of front) (map id_of back) c.id (subst (λ (l : List (List ℕ)). HasNoRepeat l) by_ids once)
       (unturned (map id_of front) c.id (subst (λ (l : List (List ℕ)). Contains l c.id) (map_turned id_of front) earlier))) in
-      let childless : (f : Node) → Contains (log_node c ∷ log_nodes front) f → list_any (leads_to bytes_eq f.id) (edges_to c.commit.parents) ≡ false = λ f inside.
+      let childless : (f : Node) → Contains (log_node c ∷ log_nodes front) f → list_any (leads_to bytes_eq f.id) (direct_edges c.commit.parents) ≡ false = λ f inside.
       let at = back_in_map log_node (front ++ c ∷ []) f (unturned (map log_node (front ++ c ∷ [])) f (subst (λ (l : List Node). Contains l f) (sym (pushed front c)) inside)) in
-      subst (λ (e : Node). list_any (leads_to bytes_eq e.id) (edges_to c.commit.parents) ≡ false) at.2 (no_edge front back c at.0 split at.1) in
+      subst (λ (e : Node). list_any (leads_to bytes_eq e.id) (direct_edges c.commit.parents) ≡ false) at.2 (no_edge front back c at.0 split at.1) in
       let sound : AreSound (log_node c ∷ log_nodes front) = ((new, k.0), (childless, k.1)) in
       are_sound (front ++ c ∷ []) back (split ∙ sym (append_assoc front (c ∷ []) back)) (subst (λ (l : List Node). AreSound l) (sym (pushed front c)) sound)
 
@@ -166,10 +154,10 @@ module _ (store : Objects) (parents : Parents) (complete : Completes store paren
   -- a commit with an edge to another one is older
   child_older : (older : List ReadCommit) (a b : ReadCommit) → MayFollow bytes_eq (log_nodes read) (nodes older) (log_node b) → Contains read a → Contains a.commit.parents b.id → Contains (map id_of older) a.id
   child_older older a b may here inside =
-      let ready : (not (list_any (leads_to bytes_eq b.id) (edges_to a.commit.parents)) || has_node bytes_eq (nodes older) a.id) ≡ true =
+      let ready : (not (list_any (leads_to bytes_eq b.id) (direct_edges a.commit.parents)) || has_node bytes_eq (nodes older) a.id) ≡ true =
       all_at (λ (e : Node). not (list_any (leads_to bytes_eq b.id) e.edges) || has_node bytes_eq (nodes older) e.id) (log_nodes read) (log_node a) may.ready (in_reverse (map log_node read) (log_node a) (in_map log_node read a here)) in
       let leads = leads_out a.commit.parents b.id inside in
-      has_id older a.id (⊎_elim (λ never. absurd (true≢false (sym never ∙ ap not leads))) (λ has. has) (or_cases (not (list_any (leads_to bytes_eq b.id) (edges_to a.commit.parents))) (has_node bytes_eq (nodes older) a.id) ready))
+      has_id older a.id (⊎_elim (λ never. absurd (true≢false (sym never ∙ ap not leads))) (λ has. has) (or_cases (not (list_any (leads_to bytes_eq b.id) (direct_edges a.commit.parents))) (has_node bytes_eq (nodes older) a.id) ready))
 
   read_of : (i : List ℕ) → Contains (map id_of read) i → (c : ReadCommit) × Contains read c × (c.id ≡ i)
   read_of i h = back_in_map id_of read i h
@@ -209,7 +197,7 @@ module _ (store : Objects) (parents : Parents) (complete : Completes store paren
     ids_back i h = let at = back_in_map id_of read i h in subst (λ z. Contains (map id_of order) z) at.2 (in_map id_of order at.0 (in_order at.0 at.1))
 
     ids_turned : reverse (map id_of (reverse order)) ≡ map id_of order
-    ids_turned = ap reverse (map_turned id_of order) ∙ turned_twice (map id_of order)
+    ids_turned = ap reverse (map_turned id_of order) ∙ reverse-reverse (map id_of order)
 
     before : (a b : List ℕ) → Contains (map id_of order) a → StrictlyReachesNode parents a b → IsNodeBefore (map id_of order) a b
     before a b inside (steps, path) =
@@ -296,7 +284,7 @@ module _ (store : Objects) (ids : List (List ℕ)) (read : List ReadCommit) (his
 -- ---- the entries of a run
 
 module _ {F : Type 0} (returns : Shared F (Bor ReadCommit × Unit {0}) (Bor (List ℕ))) (as_id : F) (says : (x : ReadCommit) (i : Bor (List ℕ)) → FnReturnsAt returns as_id x i → i.now ≡ x.id) where
-  pub entries_are : (commits : List ReadCommit) (items : List (Item ReadCommit (List ℕ))) (entries : List Node) → map listed_item items ≡ map (λ c. (c, edges_to c.commit.parents)) commits
+  pub entries_are : (commits : List ReadCommit) (items : List (Item ReadCommit (List ℕ))) (entries : List Node) → map listed_item items ≡ map (λ c. (c, direct_edges c.commit.parents)) commits
       → AllZip (IsEntryOf returns bytes_eq as_id) items entries → entries ≡ map log_node commits
   entries_are [] [] [] same k = refl
   entries_are [] [] (e ∷ entries) same k = absurd k
@@ -304,10 +292,10 @@ module _ {F : Type 0} (returns : Shared F (Bor ReadCommit × Unit {0}) (Bor (Lis
   entries_are (c ∷ commits) [] entries same k = absurd cc
   entries_are (c ∷ commits) (x ∷ items) [] same k = absurd k
   entries_are (c ∷ commits) (x ∷ items) (e ∷ entries) same (one, rest) =
-      let first : listed_item x ≡ (c, edges_to c.commit.parents) = cc in
-      let others : map listed_item items ≡ map (λ d. (d, edges_to d.commit.parents)) commits = cc in
+      let first : listed_item x ≡ (c, direct_edges c.commit.parents) = cc in
+      let others : map listed_item items ≡ map (λ d. (d, direct_edges d.commit.parents)) commits = cc in
       let node : e.node ≡ c = ap (λ p. p.0) one.same ∙ ap (λ p. p.0) first in
-      let edges : e.edges ≡ edges_to c.commit.parents = ap (λ p. p.1) one.same ∙ ap (λ p. p.1) first in
+      let edges : e.edges ≡ direct_edges c.commit.parents = ap (λ p. p.1) one.same ∙ ap (λ p. p.1) first in
       let id : e.id ≡ c.id = sym (same_id one.id.0.now e.id one.id.2) ∙ says x.0 one.id.0 one.id.1 ∙ ap (λ p. p.0.id) first in
       let more = entries_are commits items entries others rest in
       λ i. record { id = id i; node = node i; edges = edges i } ∷ more i
@@ -333,23 +321,14 @@ group_of_run commits order listed yielded found zipped grouped =
     let are = order_is listed yielded zipped (λ e h. own_node commits e (given_read (log_nodes commits) (reverse listed) grouped.grouped e (in_reverse listed e h))) in
     subst (λ (l : List Node). IsGroupedOrder bytes_eq (log_nodes commits) None (reverse l)) (are ∙ ap (map log_node) found) grouped
 
-pub same_oks : {A E : Type 0} (xs ys : List A) → map {B = Result A E} (λ x. Ok x) xs ≡ map (λ x. Ok x) ys → xs ≡ ys
-same_oks [] [] same = refl
-same_oks [] (y ∷ ys) same = absurd cc
-same_oks (x ∷ xs) [] same = absurd cc
-same_oks {E = E} (x ∷ xs) (y ∷ ys) same =
-    let first : x ≡ y = cc in
-    let rest = same_oks {E = E} xs ys cc in
-    λ i. first i ∷ rest i
-
 -- one more item of the input
-pub items_push : (commits : List ReadCommit) (items new : List (Result (Item ReadCommit (List ℕ)) HistoryError)) (c : ReadCommit) (edges : Vec (GraphEdge (List ℕ)) Global) → new ≡ items ++ Ok (c, edges) ∷ [] → edges.items ≡ edges_to c.commit.parents
+pub items_push : (commits : List ReadCommit) (items new : List (Result (Item ReadCommit (List ℕ)) HistoryError)) (c : ReadCommit) (edges : Vec (GraphEdge (List ℕ)) Global) → new ≡ items ++ Ok (c, edges) ∷ [] → edges.items ≡ direct_edges c.commit.parents
     → AreLogItems commits items → AreLogItems (commits ++ c ∷ []) new
 items_push commits items new c edges pushed are (nodes, is, same) = (
   nodes ++ (c, edges) ∷ [],
   pushed ∙ ap (λ l. l ++ Ok (c, edges) ∷ []) is ∙ sym (map-append (λ x. Ok x) nodes ((c, edges) ∷ [])),
-  map-append listed_item nodes ((c, edges) ∷ []) ∙ ap (λ l. l ++ (c, edges.items) ∷ []) same ∙ ap (λ y. map (λ d. (d, edges_to d.commit.parents)) commits ++ (c, y) ∷ []) are
-      ∙ sym (map-append (λ d. (d, edges_to d.commit.parents)) commits (c ∷ [])),
+  map-append listed_item nodes ((c, edges) ∷ []) ∙ ap (λ l. l ++ (c, edges.items) ∷ []) same ∙ ap (λ y. map (λ d. (d, direct_edges d.commit.parents)) commits ++ (c, y) ∷ []) are
+      ∙ sym (map-append (λ d. (d, direct_edges d.commit.parents)) commits (c ∷ [])),
 )
 
 -- ---- the nodes that a grouped graph of the commits yields
@@ -357,10 +336,10 @@ items_push commits items new c edges pushed are (nodes, is, same) = (
 module _ {S F : Type 0} {returns : Shared F (Bor ReadCommit × Unit {0}) (Bor (List ℕ))} {steps : S → Option (Result (Item ReadCommit (List ℕ)) HistoryError) → S → Type 0} {as_id : F} {input : S} {s : GroupedNodes ReadCommit (List ℕ) S F}
     (says : (x : ReadCommit) (i : Bor (List ℕ)) → FnReturnsAt returns as_id x i → i.now ≡ x.id) (unread : IsUnread returns bytes_eq steps as_id input [] s) where
   pub grouped_of : (commits : List ReadCommit) (items : List (Result (Item ReadCommit (List ℕ)) HistoryError)) → AreLogItems commits items → ((xs : List (Result (Item ReadCommit (List ℕ)) HistoryError)) → Drains steps input xs → xs ≡ items)
-      → IsWhole bytes_eq (log_nodes commits) → (order : List ReadCommit) → YieldsNodes returns bytes_eq steps s order → IsGroupedOrder bytes_eq (log_nodes commits) None (log_nodes order)
+      → IsWhole bytes_eq (log_nodes commits) → (order : List ReadCommit) → YieldsLogNodes returns bytes_eq steps s order → IsGroupedOrder bytes_eq (log_nodes commits) None (log_nodes order)
   grouped_of commits items are drained whole order (yielded, found, drains) =
       let run = yields-grouped-orders returns bytes_eq steps nat_list_eq_equiv as_id input [] s yielded unread drains in
-      let same = same_oks {E = HistoryError} run.nodes are.0 (drained (map (λ x. Ok x) run.nodes) run.read ∙ are.1) in
+      let same = ok_same HistoryError run.nodes are.0 (drained (map (λ x. Ok x) run.nodes) run.read ∙ are.1) in
       let entries = entries_are returns as_id says commits run.nodes run.entries (ap (map listed_item) same ∙ are.2) run.have_ids in
       let grouped : IsWhole bytes_eq (log_nodes commits) → IsGroupedOrder bytes_eq (log_nodes commits) None (reverse run.order) =
       subst (λ (l : List Node). IsWhole bytes_eq (reverse l) → IsGroupedOrder bytes_eq (reverse l) None (reverse run.order)) entries run.grouped in

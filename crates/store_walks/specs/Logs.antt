@@ -1,5 +1,5 @@
 -- The graph of a log: commits with direct edges to their parents.
--- Cited by contracts of public items through Histories: log_nodes.
+-- Cited by contracts of public items through Histories.
 use Rattle.std.specs.Prelude.{◌≡◌, ◌++◌, ◌∷◌, [], ℕ, Bool, List, Option, Result, map, reverse}
 use Rattle.std.specs.Fn.{Shared}
 use Rattle.std.specs.Iterator.{Drains, Yields}
@@ -16,12 +16,12 @@ use Rattle.store_walks.specs.declared.order.HistoryError.{HistoryError}
 use Rattle.store_walks.specs.declared.read_commit.ReadCommit.{ReadCommit}
 
 -- direct edges to the ids
-abbrev pub edges_to : List (List ℕ) → List (GraphEdge (List ℕ))
-edges_to ids = map (λ id. record { target = id; edge_type = Direct }) ids
+abbrev pub direct_edges : List (List ℕ) → List (GraphEdge (List ℕ))
+direct_edges ids = map (λ id. record { target = id; edge_type = Direct }) ids
 
 -- a commit with edges to its parents
 abbrev pub log_node : ReadCommit → Entry ReadCommit (List ℕ)
-log_node c = record { id = c.id; node = c; edges = edges_to c.commit.parents }
+log_node c = record { id = c.id; node = c; edges = direct_edges c.commit.parents }
 
 -- the commits with edges to their parents, the last first
 abbrev pub log_nodes : List ReadCommit → List (Entry ReadCommit (List ℕ))
@@ -32,14 +32,14 @@ abbrev pub AreLogItems : List ReadCommit
     → List (Result (Item ReadCommit (List ℕ)) HistoryError) → Type 0
 AreLogItems commits items = (nodes : List (Item ReadCommit (List ℕ)))
     × (items ≡ map (λ x. Ok x) nodes)
-    × (map listed_item nodes ≡ map (λ c. (c, edges_to c.commit.parents)) commits)
+    × (map listed_item nodes ≡ map (λ c. (c, direct_edges c.commit.parents)) commits)
 
 module _ {N ID S E F : Type 0} (ids : Shared F (Bor N × Unit {0}) (Bor ID))
     (eq : ID → ID → Bool) (steps : S → Option (Result (Item N ID) E) → S → Type 0)
     (nodes : GroupedNodes N ID S F) where
   -- the iterator yields these nodes and ends
-  abbrev pub YieldsNodes : List N → Type 0
-  YieldsNodes found = (items : List (Item N ID)) × (map (λ x. x.0) items ≡ found)
+  abbrev pub YieldsLogNodes : List N → Type 0
+  YieldsLogNodes found = (items : List (Item N ID)) × (map (λ x. x.0) items ≡ found)
       × Drains (Steps ids eq steps) nodes (map (λ x. Ok x) items)
 
   -- the iterator yields some nodes, and then this error

@@ -1,5 +1,5 @@
 -- Results of reading several commits, in the order of their ids.
--- Cited by contracts of public items: reads_left.
+-- Machinery of private functions and fields.
 use Rattle.std.specs.Prelude.{◌≡◌, ◌⊎◌, ◌++◌, ℕ, List, [], ◌∷◌, Result, if◌then◌else◌}
 use Rattle.std.specs.declared.result.Result.TheVariants.{Ok, Err}
 use Rattle.jj_backend.specs.Objects.{Objects}

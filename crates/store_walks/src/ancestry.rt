@@ -1,15 +1,16 @@
-//! The ancestors of some commits, as far as they can be read.
+//! The ancestors of some commits by depth-first search, as far as they can be read.
 ghost use Rattle.std.specs.Prelude.{IfOk};
 ghost use Rattle.store_walks.specs.Histories.{AreFoundAncestors};
 
 use crate::read_commit::ReadCommit;
 use crate::reads::read_each;
-use crate::walk_items::collect_dfs;
 use jj_backend::backend::{Backend, BackendResult, CommitId};
+use jj_walks::dag_walk::collect_dfs_ok;
 use std::alloc::{AllocError, Global};
 
-/// Returns the ancestors of `ids`, each once, depth first, with the error of each failed read. A
-/// failed read does not end the walk. Fails if memory runs out.
+/// Returns the ancestors of `ids`, each once, in depth-first preorder, with the error of each
+/// failed read. A failed read does not end the walk. Fails if memory runs out. Reads a commit for
+/// each id of `ids` and of the parents found.
 pub fn ancestors<B: Backend>(
     alloc: Global,
     store: &B,
@@ -18,7 +19,7 @@ pub fn ancestors<B: Backend>(
     ensures { IfOk result (λ found. AreFoundAncestors (B.objects store.now) (B.may_fail store.now)
         ids.now found.items) }
 {
-    collect_dfs(
+    collect_dfs_ok(
         alloc,
         read_each(alloc, store, ids),
         |commit: &ReadCommit| commit.id.clone(),

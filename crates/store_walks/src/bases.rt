@@ -1,4 +1,4 @@
-//! The merge bases of two sets of commits.
+//! The merge bases of two sets of commits: closest common nodes by best-first search.
 ghost use Rattle.std.specs.Prelude.{◌++◌, IfOk};
 ghost use Rattle.jj_dag.specs.Outcomes.{IfFails};
 ghost use Rattle.store_walks.specs.Histories.{AreMergeBases, IsErrorBelow};
@@ -9,7 +9,8 @@ use jj_dag::dag_walk_async::closest_common_nodes;
 use jj_dag::walk_error::WalkError;
 use std::alloc::Global;
 
-/// Returns the common ancestors of both sets that are no proper ancestor of another one.
+/// Returns the common ancestors of both sets that are no proper ancestor of another one. Fails with
+/// `Node` of the error of the first failed read, and with `Memory` if memory runs out.
 pub fn merge_bases<B: Backend>(
     alloc: Global,
     store: &B,

@@ -1,4 +1,4 @@
-//! The ancestors of some commits in topological order, branch by branch.
+//! The ancestors of some commits in grouped topological order, branch by branch.
 ghost use Rattle.std.specs.Prelude.{◌≡◌, ◌⊎◌, IfErr, IfOk, None, map};
 ghost use Rattle.std.specs.Str.{bytes_eq};
 ghost use Rattle.jj_dag.specs.Outcomes.{IfFails};
@@ -6,7 +6,7 @@ ghost use Rattle.jj_walks.specs.GroupedOrders.{IsGroupedOrder, IsWhole};
 ghost use Rattle.jj_walks.specs.GroupedSteps.{CanRead};
 ghost use Rattle.jj_walks.specs.declared.grouped.GroupedGraphError.TheVariants.{Memory};
 ghost use Rattle.store_walks.specs.Histories.{IsGroupedHistory, IsHistoryError};
-ghost use Rattle.store_walks.specs.Logs.{AreLogItems, StopsWith, YieldsNodes, edges_to, log_nodes};
+ghost use Rattle.store_walks.specs.Logs.{AreLogItems, StopsWith, YieldsLogNodes, direct_edges, log_nodes};
 
 use crate::order::{HistoryError, history_order};
 use crate::read_commit::ReadCommit;
@@ -17,8 +17,8 @@ use std::alloc::{AllocError, Global};
 use std::hash::Hash;
 
 // Returns direct edges to these ids.
-fn edges_to(alloc: Global, ids: &[CommitId]) -> Result<Vec<GraphEdge<CommitId>>, AllocError>
-    ensures { IfOk result (λ edges. edges.items ≡ edges_to ids.now) }
+fn direct_edges(alloc: Global, ids: &[CommitId]) -> Result<Vec<GraphEdge<CommitId>>, AllocError>
+    ensures { IfOk result (λ edges. edges.items ≡ direct_edges ids.now) }
 {
     let mut edges = Vec::new(alloc);
     for id in ids {
@@ -28,9 +28,9 @@ fn edges_to(alloc: Global, ids: &[CommitId]) -> Result<Vec<GraphEdge<CommitId>>,
 }
 
 fn edges_of(alloc: Global, commit: &ReadCommit) -> Result<Vec<GraphEdge<CommitId>>, AllocError>
-    ensures { IfOk result (λ edges. edges.items ≡ edges_to commit.now.commit.parents) }
+    ensures { IfOk result (λ edges. edges.items ≡ direct_edges commit.now.commit.parents) }
 {
-    edges_to(alloc, &commit.commit.parents)
+    direct_edges(alloc, &commit.commit.parents)
 }
 
 // Returns the commits with edges to their parents, as items of which none fails.
@@ -64,16 +64,14 @@ where
     F: Fn(&N) -> &ID + Drop,
     requires { CanRead F.Fn ID.eq ID.is_clone S.can_next S.remaining nodes.graph }
     ensures nodes { IfOk result (λ found.
-        YieldsNodes F.Fn ID.eq S.next_gives nodes found.items) }
+        YieldsLogNodes F.Fn ID.eq S.next_gives nodes found.items) }
     ensures error { IfErr result (λ error. (error ≡ Memory)
         ⊎ StopsWith F.Fn ID.eq S.next_gives nodes error) }
 {
     let mut found = Vec::new(alloc);
     for item in nodes {
-        match item {
-            Ok((node, _edges)) => found.push(node)?,
-            Err(error) => return Err(error),
-        }
+        let (node, _edges) = item?;
+        found.push(node)?;
     }
     Ok(found)
 }
@@ -96,7 +94,9 @@ fn group(alloc: Global, commits: Vec<ReadCommit>) -> Result<Vec<ReadCommit>, All
 }
 
 /// Returns the ancestors of `ids`, each once and before its own ancestors, and branches together:
-/// a commit is followed by the last of its parents whose children all came before, if one is.
+/// a commit is followed by the last of its parents whose children all came before, if one is. Fails
+/// with `Node` of `Read` of the error of a failed read or of `Cycle` of some ancestor if there is a
+/// cycle, and with `Memory` if memory runs out.
 pub fn grouped_history<B: Backend>(
     alloc: Global,
     store: &B,

@@ -1,4 +1,4 @@
-//! The heads of some commits.
+//! The heads of some commits: maximal elements by breadth-first search.
 ghost use Rattle.std.specs.Prelude.{IfOk};
 ghost use Rattle.jj_dag.specs.Outcomes.{IfFails};
 ghost use Rattle.store_walks.specs.Histories.{AreHeadCommits, IsReadErrorBelow};
@@ -10,7 +10,8 @@ use jj_dag::walk_error::WalkError;
 use std::alloc::Global;
 use std::collections::HashSet;
 
-/// Returns the commits of `ids` that are no proper ancestor of another one.
+/// Returns the commits of `ids` that are no proper ancestor of another one. Fails with `Node` of
+/// the error of the first failed read, and with `Memory` if memory runs out.
 pub fn head_commits<B: Backend>(
     alloc: Global,
     store: &B,

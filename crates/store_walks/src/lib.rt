@@ -9,7 +9,6 @@ mod heads;
 mod order;
 mod read_commit;
 mod reads;
-mod walk_items;
 
 pub use crate::ancestry::ancestors;
 pub use crate::bases::merge_bases;

@@ -1,4 +1,4 @@
-//! The ancestors of some commits in topological order, each before its own.
+//! The ancestors of some commits in topological order: Kahn's algorithm with a max-heap of ids.
 ghost use Rattle.std.specs.Prelude.{IfOk, Result};
 ghost use Rattle.std.specs.Global.{Global};
 ghost use Rattle.std.specs.declared.vec.Vec.{Vec};
@@ -14,10 +14,10 @@ use jj_dag::walk_error::WalkError;
 use std::alloc::Global;
 use std::vec::IntoIter;
 
-/// Why the ancestors of some commits have no order: one could not be read, or one is its own
-/// ancestor.
+/// The error of an order of ancestors.
 #[derive(Drop)]
 pub enum HistoryError {
+    /// A commit could not be read.
     Read(BackendError),
     /// The id of an ancestor where there is a cycle.
     Cycle(CommitId),
@@ -48,7 +48,9 @@ fn commit_items<B: Backend>(
     as_list_or_error(read_history(alloc, store, ids))
 }
 
-/// Returns the ancestors of `ids`, each once and before its own ancestors.
+/// Returns the ancestors of `ids`, each once and before its own ancestors; where there is a choice,
+/// the greatest id first. Fails with `Node` of `Read` of the error of a failed read or of `Cycle`
+/// of some ancestor if there is a cycle, and with `Memory` if memory runs out.
 pub fn history_order<B: Backend>(
     alloc: Global,
     store: &B,

@@ -1,4 +1,4 @@
-//! Commits with their ids, ordered by these, and reads of them.
+//! Commits with their ids, which compare by these, and reads of them.
 ghost use Rattle.std.specs.Prelude.{◌≡◌, ◌⊎◌, All, IfErr, IfOk, Some, map, refl};
 ghost use Rattle.std.specs.Cmp;
 ghost use Rattle.std.specs.Cmp.{on_equiv, on_total, po};
@@ -12,7 +12,7 @@ use jj_backend::backend::{Backend, BackendError, BackendResult, Commit, CommitId
 use std::alloc::Global;
 use std::cmp::Ordering;
 
-/// A commit and its id. Two of them are equal, and ordered, as their ids are.
+/// A commit and its id. Commits compare by their ids.
 #[derive(Drop)]
 pub struct ReadCommit {
     pub id: CommitId,
@@ -79,10 +79,7 @@ pub(crate) fn read<B: Backend>(alloc: Global, store: &B, id: &CommitId) -> Backe
     ensures error { IfErr result (λ e. (e ≡ BackendError.Memory)
         ⊎ IsReadError (B.may_fail store.now) (B.objects store.now) e id.now) }
 {
-    let commit = match store.read_commit(alloc, id) {
-        Ok(commit) => commit,
-        Err(error) => return Err(error),
-    };
+    let commit = store.read_commit(alloc, id)?;
     Ok(ReadCommit {
         id: id.clone()?,
         commit,

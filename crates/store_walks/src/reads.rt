@@ -1,4 +1,4 @@
-//! Results of reads of commits, as an iterator.
+//! An iterator over the results of reads of commits, which it stores in a queue.
 ghost use Rattle.store_walks.specs.ReadResults.{AreReads, reads_left};
 
 use crate::read_commit::{ReadCommit, read};

@@ -1,7 +1,6 @@
 use Rattle.std.proofs.Common.{refl, []}
-use Rattle.std.proofs.Common.{arith}
 use Rattle.jj_walks.specs.Expansions.ExpansionsLead.{none}
-use Rattle.jj_walks.proofs.Expanding.{answers_start}
+use Rattle.jj_walks.proofs.Expanding.{expansions_start}
 use Rattle.jj_walks.proofs.depth_first.dfs_ok.Goals as goal
 
 pub returns : goal.returns
@@ -15,7 +14,7 @@ returns g c = record {
       expansions = [];
       in_turn = none;
       expanded = refl;
-      walks = λ m implemented nodes. answers_start m c.in_ok-work.work.items nodes (λ i. rw c.new.ensures.empty refl);
+      walks = λ m implemented nodes. expansions_start m c.in_ok-work.work.items nodes (λ i. rw c.new.ensures.empty refl);
     };
   };
 }

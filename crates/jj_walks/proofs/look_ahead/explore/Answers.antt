@@ -3,6 +3,7 @@ use Rattle.std.proofs.lemmas.List.{length-map, map_push}
 use Rattle.std.proofs.lemmas.List.Sorted.{IsPermutation-append_right, IsPermutation-trans, length_permutation}
 use Rattle.std.specs.BinaryHeap.{heap_items}
 use Rattle.std.specs.HashMap.{get}
+use Rattle.std.proofs.lemmas.Result.{err_from_is_err_and}
 use Rattle.jj_dag.proofs.Collecting.{are_nodes, some_of, top_reached}
 use Rattle.jj_dag.proofs.Errors.{node_weaker}
 use Rattle.jj_dag.specs.Expanding.{whole}
@@ -19,23 +20,23 @@ pub loop-node-init : goal.loop-node-init
 loop-node-init g c = record {
   graph = implements-none g.ID.PartialEq.eq g.F.Fn g.N.FnMut g.NI.IntoIterator g.NI.IntoIter.Iterator _ c.requires;
   found = (
-    record { given = []; nodes = c.new-found.ensures.nodes; ids = ap length c.new-found.ensures.ids; places = λ i k found. let none = rw (c.new-found.ensures.places i) at found in absurd cc },
-    λ walk implemented nodes. looking_starts walk (whole walk) c.args.start.items (heap_items c.from-waiting.result) [] (map (λ v. v.items) c.new-found.result.neighbor_ids.items) _
-        c.from-waiting.ensures.1 refl (ap (map (λ v. v.items)) c.new-found.ensures.ids) c.new-found.ensures.places,
+    record { visited = []; nodes = c.new-found.ensures.nodes; ids = ap length c.new-found.ensures.ids; indices = λ i k found. let none = rw (c.new-found.ensures.indices i) at found in absurd cc },
+    λ walk implemented nodes. looking_starts walk (whole walk) c.args.start.items (heap_items c.from-frontier.result) [] (map (λ v. v.items) c.new-found.result.neighbor_ids.items) _
+        c.from-frontier.ensures.1 refl (ap (map (λ v. v.items)) c.new-found.ensures.ids) c.new-found.ensures.indices,
   );
 }
 
 pub loop-node-smaller-then-contains_key : goal.loop-node-smaller-then-contains_key
 loop-node-smaller-then-contains_key g c =
-    let n : length (c.in-Some.node ∷ heap_items c.next_to_explore.new.waiting) ≡ length (heap_items c.loop-node.waiting) =
-    length_permutation (heap_items c.loop-node.waiting) (c.in-Some.node ∷ heap_items c.next_to_explore.new.waiting) c.in-Some.ensures.taken in
+    let n : length (c.in-Some.node ∷ heap_items c.next_to_explore.new.frontier) ≡ length (heap_items c.loop-node.frontier) =
+    length_permutation (heap_items c.loop-node.frontier) (c.in-Some.node ∷ heap_items c.next_to_explore.new.frontier) c.in-Some.ensures.taken in
     omega arith
 
 pub loop-node-preserved-then-contains_key : goal.loop-node-preserved-then-contains_key
 loop-node-preserved-then-contains_key g c =
     let before = c.loop-node.invariant in
     let node = c.in-Some.node in
-    let rest = heap_items c.next_to_explore.new.waiting in
+    let rest = heap_items c.next_to_explore.new.frontier in
     let found = some_of (get g.ID.PartialEq.eq c.loop-node.found.index_of c.in_ok-id.id) c.if-contains_key.ensures in
     record {
       graph = before.graph;
@@ -50,41 +51,43 @@ loop-node-preserved g c =
     let before = c.loop-node.invariant in
     let node = c.in-Some.node in
     let id = c.in_ok-id.id in
-    let rest = heap_items c.next_to_explore.new.waiting in
-    let told = rw before.graph.id_fn at (returns_id g.F.Fn c.id_fn.ensures c.in_ok-id.was) in
-    let below = c.in-Ok.neighbors.items in
+    let rest = heap_items c.next_to_explore.new.frontier in
+    let named = rw before.graph.id_fn at (returns_id g.F.Fn c.id_fn.ensures c.in_ok-id.was) in
+    let below = c.in_ok-neighbors.neighbors.items in
     let missed = none_is (get g.ID.PartialEq.eq c.loop-node.found.index_of id) (sym c.if-contains_key.ensures) in
-    let more = filled_more g.ID.PartialEq.eq c.loop-node.found c.add_node.new.self node id c.in_ok-ids.ids before.found.0 c.in_ok-add_node.ensures.nodes c.in_ok-add_node.ensures.ids c.in_ok-add_node.ensures.places in
+    let more = filled_more g.ID.PartialEq.eq c.loop-node.found c.add_node.new.self node id c.in_ok-ids.ids before.found.0 c.in_ok-add_node.ensures.nodes c.in_ok-add_node.ensures.ids c.in_ok-add_node.ensures.indices in
     let graph = implements-more g.ID.PartialEq.eq g.F.Fn g.N.FnMut g.NI.IntoIterator g.NI.IntoIter.Iterator c.args.closures.now c.loop-node.closures c.neighbors.new.self before.graph c.neighbors.ensures.graph in
     let ids_ok = c.in_ok-ids.ids.ok in
     let count : c.in_ok-ids.ids.len ≡ length c.in_ok-ids.ids.items = omega arith in
-    let waits = IsPermutation-trans _ _ _ (IsPermutation-append_right rest below (heap_items c.from.result) c.from.ensures.1) c.in_ok-append.ensures.permutation in
+    let queued = IsPermutation-trans _ _ _ (IsPermutation-append_right rest below (heap_items c.from.result) c.from.ensures.1) c.in_ok-append.ensures.permutation in
     record {
       graph = graph;
-      found = of_collected more (λ given walk implemented nodes.
+      found = of_collected more (λ visited walk implemented nodes.
           let known = before.found.1 walk implemented nodes in
           let is = are_nodes walk (whole walk) (map walk.node c.args.start.items) implemented.closed nodes _ (top_reached walk (whole walk) rest node (top_collecting walk (whole walk) rest node known c.in-Some.ensures.taken) refl) in
-          let listed = c.in-Ok.ensures.listed walk (rw before.graph.id_fn (before.graph.implemented walk implemented)) is in
+          let listed = c.in_ok-neighbors.ensures.listed walk (rw before.graph.id_fn (before.graph.implemented walk implemented)) is in
           let same_ids = ids_told walk _ (rw (← graph.id_fn) at implemented.ids_match) below c.in_ok-ids.ids.items (rw c.deref.ensures.value at c.in_ok-ids.ensures) (λ b h. implemented.closed (walk.node node) is b (rw listed at h)) in
           looking_entered walk (whole walk) g.ID.PartialEq.eq _ _ rest node id below _ _ c.in_ok-ids.ids.items _ (length c.loop-node.found.nodes.items)
-          (λ a. all_sound _ (walk.graph a)) implemented.closed implemented.apart known c.in-Some.ensures.taken is (implemented.ids_match node id is told) missed
-          (whole_listed walk (walk.node node) below listed) listed same_ids waits given (ap (map (λ v. v.items)) c.in_ok-add_node.ensures.ids ∙ map_push (λ v. v.items) c.loop-node.found.neighbor_ids.items c.in_ok-ids.ids)
-          (ap length before.found.0.nodes ∙ length-map before.found.0.given (λ x. Some x)) c.in_ok-add_node.ensures.places
+          (λ a. all_sound _ (walk.graph a)) implemented.closed implemented.apart known c.in-Some.ensures.taken is (implemented.ids_match node id is named) missed
+          (whole_listed walk (walk.node node) below listed) listed same_ids queued visited (ap (map (λ v. v.items)) c.in_ok-add_node.ensures.ids ∙ map_push (λ v. v.items) c.loop-node.found.neighbor_ids.items c.in_ok-ids.ids)
+          (ap length before.found.0.nodes ∙ length-map before.found.0.visited (λ x. Some x)) c.in_ok-add_node.ensures.indices
           (λ f. let both = neither c.loop-node.root_met c.is_empty-root_met.result f in (both.0, some_edge walk.node walk.id c.in_ok-ids.ids.items below (walk.graph (walk.node node)) c.in_ok-ids.ids.len same_ids listed count (sym c.is_empty-root_met.ensures ∙ both.1))));
     }
 
-pub returns-in-Err : goal.returns-in-Err
-returns-in-Err g c = record {
-  graph = implements-more g.ID.PartialEq.eq g.F.Fn g.N.FnMut g.NI.IntoIterator g.NI.IntoIter.Iterator c.args.closures.now c.loop-node.closures c.neighbors.new.self c.loop-node.invariant.graph c.neighbors.ensures.graph;
-  explored = tt;
-  failed = node_weaker c.in-Err.refused _ _ (λ error failure.
-      let before = c.loop-node.invariant in
-      let rest = heap_items c.next_to_explore.new.waiting in (
-        c.in-Some.node,
-        fails_before g.ID.PartialEq.eq g.F.Fn g.N.FnMut g.NI.IntoIterator g.NI.IntoIter.Iterator c.args.closures.now c.loop-node.closures before.graph c.in-Some.node error failure,
-        λ walk implemented nodes. top_reached walk (whole walk) rest c.in-Some.node (top_collecting walk (whole walk) rest c.in-Some.node (before.found.1 walk implemented nodes) c.in-Some.ensures.taken) refl,
-      )) c.in-Err.ensures.failed;
-}
+pub returns-in_err-neighbors : goal.returns-in_err-neighbors
+returns-in_err-neighbors g c =
+    let p = err_from_is_err_and c.from_residual-in_err-neighbors.result c.from_residual-in_err-neighbors.ensures.1 in
+    rw (p.1, p.2) (record {
+      graph = implements-more g.ID.PartialEq.eq g.F.Fn g.N.FnMut g.NI.IntoIterator g.NI.IntoIter.Iterator c.args.closures.now c.loop-node.closures c.neighbors.new.self c.loop-node.invariant.graph c.neighbors.ensures.graph;
+      explored = tt;
+      failed = node_weaker c.in_err-neighbors.field-0.0 _ _ (λ error failure.
+          let before = c.loop-node.invariant in
+          let rest = heap_items c.next_to_explore.new.frontier in (
+            c.in-Some.node,
+            fails_before g.ID.PartialEq.eq g.F.Fn g.N.FnMut g.NI.IntoIterator g.NI.IntoIter.Iterator c.args.closures.now c.loop-node.closures before.graph c.in-Some.node error failure,
+            λ walk implemented nodes. top_reached walk (whole walk) rest c.in-Some.node (top_collecting walk (whole walk) rest c.in-Some.node (before.found.1 walk implemented nodes) c.in-Some.ensures.taken) refl,
+          )) c.in_err-neighbors.ensures.failed;
+    })
 
 pub returns-in_err-ids : goal.returns-in_err-ids
 returns-in_err-ids g c = record {
@@ -113,10 +116,10 @@ returns g c = record {
   failed = tt;
   explored =
       let p = c.loop-node.invariant.found in
-      let left : c.into_vec.result.items ≡ heap_items c.loop-node.waiting = ap (λ v. v.items) c.into_vec.ensures.value ∙ c.in_default.ensures.same in (
+      let left : c.into_vec.result.items ≡ heap_items c.loop-node.frontier = ap (λ v. v.items) c.into_vec.ensures.value ∙ c.in_default.ensures.same in (
         p.0,
         λ none.
-            let stored : length c.loop-node.found.nodes.items ≡ 0 = ap length p.0.nodes ∙ length-map p.0.given (λ x. Some x) ∙ ap length none in
+            let stored : length c.loop-node.found.nodes.items ≡ 0 = ap length p.0.nodes ∙ length-map p.0.visited (λ x. Some x) ∙ ap length none in
             let ok = c.loop-node.found.nodes.ok in
             let size : c.len.result ≡ 0 = omega arith in
             left ∙ c.in_default.ensures.begun size,

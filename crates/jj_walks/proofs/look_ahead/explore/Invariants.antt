@@ -12,8 +12,8 @@ invariant-loop-node g l = record {
   graph : StillImplements g.ID.PartialEq.eq g.F.Fn g.N.FnMut g.NI.IntoIterator g.NI.IntoIter.Iterator l.initial.closures l.closures;
   found : (filled : IsFilled g.ID.PartialEq.eq l.found)
       × InModels g.ID.PartialEq.eq g.F.Fn g.N.FnMut g.NI.IntoIterator g.NI.IntoIter.Iterator l.initial.closures l.fn.start.items (λ walk nodes.
-      IsLooking walk (whole walk) nodes (get g.ID.PartialEq.eq l.found.index_of) l.root_met (heap_items l.waiting) filled.given (map (λ v. v.items) l.found.neighbor_ids.items));
+      IsLooking walk (whole walk) nodes (get g.ID.PartialEq.eq l.found.index_of) l.root_met (heap_items l.frontier) filled.visited (map (λ v. v.items) l.found.neighbor_ids.items));
 }
 
 abbrev pub decreases-loop-node : goal.decreases-loop-node
-decreases-loop-node g l = left (heap_items l.waiting) l.found.nodes.items
+decreases-loop-node g l = left (heap_items l.frontier) l.found.nodes.items

@@ -4,7 +4,7 @@ use Rattle.std.proofs.lemmas.Iterator.{items_from_drains}
 use Rattle.std.proofs.lemmas.Iterator.Adapters.{YieldsList-from_vec}
 use Rattle.std.proofs.lemmas.List.{map-append, map-id}
 use Rattle.jj_walks.specs.ListsByKey.{items_at}
-use Rattle.jj_walks.specs.Reversed.{incoming_edges, shown_graph}
+use Rattle.jj_walks.specs.Reversed.{incoming_edges, edge_lists}
 use Rattle.jj_dag.proofs.FailingOrders.{ok-push, Yields-push}
 use Rattle.jj_walks.proofs.Reversing.{leads_turned, leads_nothing, leads_entered, leads_left, shows_more, shows_all}
 use Rattle.jj_dag.proofs.Walking.{returned}
@@ -37,7 +37,7 @@ loop-item-preserved g c =
         pushed ∙ ap (λ l. l ++ c.in-Ok.item.0 ∷ []) before.2 ∙ sym (map-append (λ x. x.0) before.0 (c.in-Ok.item ∷ [])),
         λ id shows q.
             leads_entered g.ID.PartialEq.eq g.ID.Clone.is_clone id before.0 c.in-Ok.item c.loop-edge.yielded (items_at g.ID.PartialEq.eq c.loop-edge.incoming q) q all
-            (c.loop-edge.invariant.turned id shows (incoming_edges g.ID.PartialEq.eq q (shown_graph before.0)) q (before.3 id shows q)),
+            (c.loop-edge.invariant.turned id shows (incoming_edges g.ID.PartialEq.eq q (edge_lists before.0)) q (before.3 id shows q)),
       );
     }
 
@@ -96,9 +96,9 @@ loop-node-preserved g c =
           let its_id : c.as_id-in-Some-pop.result.now ≡ id c.in-Some-pop.node = shows c.in-Some-pop.node c.as_id-in-Some-pop.result (returned g.F.Fn c.as_id-in-Some-pop.ensures) in
           let taken : c.take_edges-edges.result.items ≡ items_at g.ID.PartialEq.eq c.loop-node.incoming (id c.in-Some-pop.node) =
           c.take_edges-edges.ensures.taken ∙ ap (items_at g.ID.PartialEq.eq c.loop-node.incoming) its_id in (
-            λ q. leads_left g.ID.PartialEq.eq g.ID.Clone.is_clone id c.in-Some-pop.node before.1 (incoming_edges g.ID.PartialEq.eq q (shown_graph before.0)) c.as_id-in-Some-pop.result.now q
+            λ q. leads_left g.ID.PartialEq.eq g.ID.Clone.is_clone id c.in-Some-pop.node before.1 (incoming_edges g.ID.PartialEq.eq q (edge_lists before.0)) c.as_id-in-Some-pop.result.now q
                 (items_at g.ID.PartialEq.eq c.loop-node.incoming q) (items_at g.ID.PartialEq.eq c.take_edges-edges.new.incoming q) its_id (c.take_edges-edges.ensures.left q) (known.0 q),
-            shows_more g.ID.PartialEq.eq g.ID.Clone.is_clone id (shown_graph before.0) before.1 c.in-Some-pop.node c.take_edges-edges.result c.loop-node.reversed.items c.push-in-Some-pop.new.self.items pushed
+            shows_more g.ID.PartialEq.eq g.ID.Clone.is_clone id (edge_lists before.0) before.1 c.in-Some-pop.node c.take_edges-edges.result c.loop-node.reversed.items c.push-in-Some-pop.new.self.items pushed
                 (rw taken (known.0 (id c.in-Some-pop.node))) known.1,
           ),
     )
@@ -109,5 +109,5 @@ returns-clause-reversed g c =
     let empty : c.loop-node.nodes.items ≡ [] = first_of (search rules, grind (arith, common_steps)) in (
       before.0,
       before.2,
-      λ id shows. shows_all g.ID.PartialEq.eq g.ID.Clone.is_clone id before.0 c.loop-node.nodes.items before.1 (shown_graph c.loop-node.reversed.items) before.3 empty (before.4 id shows).1,
+      λ id shows. shows_all g.ID.PartialEq.eq g.ID.Clone.is_clone id before.0 c.loop-node.nodes.items before.1 (edge_lists c.loop-node.reversed.items) before.3 empty (before.4 id shows).1,
     )

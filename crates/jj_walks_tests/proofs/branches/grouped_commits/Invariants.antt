@@ -13,5 +13,5 @@ invariant-loop-item l = record {
   finite : goal.iterator-loop-item.is_finite l.item-iterator;
   goes_on : l.item-iterator.has_ended ≡ false;
   good : into_iter_len l.item-iterator.graph.input ≡ length (into_iter_items l.item-iterator.graph.input);
-  run : (h : History (Bor Commit) ℕ) × Keeps eqb h l.item-iterator.graph.pending × IsRun l.fn.commits l.fn.wanted h (into_iter_items l.item-iterator.graph.input) l.order.items;
+  run : (h : History (Bor Commit) ℕ) × Keeps eqb h l.item-iterator.graph.pending × IsRun l.fn.commits l.fn.required h (into_iter_items l.item-iterator.graph.input) l.order.items;
 }

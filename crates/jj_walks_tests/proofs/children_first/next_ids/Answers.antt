@@ -3,7 +3,7 @@ use Rattle.std.proofs.lemmas.Grind.{common_steps}
 use Rattle.std.proofs.lemmas.List.{map-id}
 use Rattle.jj_dag.proofs.Errors.{if_fails, if_ok}
 use Rattle.jj_dag.proofs.Walkable.{walkable_by}
-use Rattle.jj_walks_tests.proofs.Sound.{id_walk}
+use Rattle.jj_walks_tests.proofs.OkItems.{id_walk}
 use Rattle.jj_walks_tests.proofs.ImplementedGraphs.{ids_implemented, no_id_may_fail}
 use Rattle.jj_walks_tests.proofs.children_first.next_ids.Goals as goal
 

@@ -5,7 +5,8 @@ use denote.Param.Always.{mut_total}
 use Rattle.jj_dag.proofs.Errors.{if_fails, if_ok}
 use Rattle.jj_dag.proofs.ListNumbers.{number}
 use Rattle.jj_dag.proofs.Walkable.{walkable_by}
-use Rattle.store_walks.proofs.Commits.{are_nodes, bases_from, error_at, error_below, implements, may_read, node_of, reached_from_both, starts_are, vec_drained, walk_of}
+use Rattle.jj_walks.proofs.Callers.{vec_drained}
+use Rattle.store_walks.proofs.Commits.{are_nodes, bases_from, error_at, error_below, implements, may_read, node_of, reached_from_both, starts_are, walk_of}
 use Rattle.store_walks.proofs.bases.merge_bases.Goals as goal
 
 pub closest_common_nodes-requires-clause-graph : goal.closest_common_nodes-requires-clause-graph

@@ -2,7 +2,7 @@ use Rattle.std.proofs.Common.{rules, ◌≡◌, ◌∙◌, [], ap, sym, subst, �
 use Rattle.std.specs.Str.{bytes_eq}
 use Rattle.jj_walks.specs.PendingNodes.{Keeps}
 use Rattle.jj_walks.specs.declared.grouped.GroupedGraphError.TheVariants.{Memory}
-use Rattle.store_walks.proofs.Commits.{vec_begun, vec_drained}
+use Rattle.jj_walks.proofs.Callers.{vec_begun, vec_drained}
 use Rattle.store_walks.proofs.LogErrors.{only_memory}
 use Rattle.store_walks.proofs.LogOrders.{grouped_of}
 use Rattle.store_walks.proofs.grouped.group.Goals as goal

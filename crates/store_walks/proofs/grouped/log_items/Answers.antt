@@ -1,6 +1,6 @@
 use Rattle.std.proofs.Common.{rules, [], refl, subst}
 use Rattle.store_walks.specs.Logs.{AreLogItems}
-use Rattle.store_walks.proofs.Commits.{vec_drained}
+use Rattle.jj_walks.proofs.Callers.{vec_drained}
 use Rattle.store_walks.proofs.LogOrders.{items_push}
 use Rattle.store_walks.proofs.grouped.log_items.Goals as goal
 

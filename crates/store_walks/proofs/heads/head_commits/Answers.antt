@@ -6,7 +6,8 @@ use Rattle.jj_dag.proofs.Errors.{if_fails, if_ok}
 use Rattle.jj_dag.proofs.ListNumbers.{list_of_number, list_of_number-number, number}
 use Rattle.jj_dag.proofs.NodeGraphs.{maximal_nodes, no_cycle_up, reached_back}
 use Rattle.jj_dag.proofs.Walkable.{walkable_by}
-use Rattle.store_walks.proofs.Commits.{id_graph, implements_ids, may_read_ids, number_eq, vec_drained, walk_of_ids}
+use Rattle.jj_walks.proofs.Callers.{number_eq, vec_drained}
+use Rattle.store_walks.proofs.Commits.{id_graph, implements_ids, may_read_ids, walk_of_ids}
 use Rattle.store_walks.proofs.heads.head_commits.Goals as goal
 
 pub heads-requires-clause-graph : goal.heads-requires-clause-graph

@@ -27,9 +27,9 @@ turns-preserved-in_default g c =
           c.in_ok-refill.ensures.listed i (rw none at before);
       follows = λ targets k. follows-none g.ID.PartialEq.eq _ targets c.turns.self.ids.items c.refill.new.self.ids.items none (c.turns.invariant.follows targets k);
       begun = λ u. let k = c.turns.invariant.begun u in untaken-refilled s c.refill.new.self more (record { ids = left; blocked = k.blocked; heads = k.heads; children = k.children });
-      branch = λ edge wanted counts k.
-          let before : IsFirstBranch g.ID.PartialEq.eq edge wanted s = branch-heads g.met.ID.Eq.laws edge wanted c.turns.self s [] same refl refl (sym (append-nil (deque_items c.turns.self.heads))) (c.turns.invariant.branch edge wanted counts k) in
-          inr (branch-refilled g.met.ID.Eq.laws edge wanted _ counts s c.refill.new.self left more before);
+      branch = λ edge required counts k.
+          let before : IsFirstBranch g.ID.PartialEq.eq edge required s = branch-heads g.met.ID.Eq.laws edge required c.turns.self s [] same refl refl (sym (append-nil (deque_items c.turns.self.heads))) (c.turns.invariant.branch edge required counts k) in
+          inr (branch-refilled g.met.ID.Eq.laws edge required _ counts s c.refill.new.self left more before);
     }
 
 pub turns-preserved-in-None-get : goal.turns-preserved-in-None-get
@@ -43,7 +43,7 @@ turns-preserved-in-None-get g c =
           (c.turns.invariant.listed i zero k);
       follows = λ targets k. follows-passed g.ID.PartialEq.eq _ targets c.pop.new.self.items c.turns.self.ids.items c.in-Some.id top (λ known. absurd (true≢false (sym known ∙ ap is_some (sym none)))) (c.turns.invariant.follows targets k);
       begun = λ u. untaken-none c.turns.self c.pop.new.self.items c.in-Some.id top (c.turns.invariant.begun u);
-      branch = λ edge wanted counts k. absurd (true≢false (sym (branch-counted g.met.ID.Eq.laws edge wanted _ counts c.turns.self c.pop.new.self.items c.in-Some.id top (c.turns.invariant.branch edge wanted counts k)) ∙ ap is_some (sym none)));
+      branch = λ edge required counts k. absurd (true≢false (sym (branch-counted g.met.ID.Eq.laws edge required _ counts c.turns.self c.pop.new.self.items c.in-Some.id top (c.turns.invariant.branch edge required counts k)) ∙ ap is_some (sym none)));
     }
 
 pub returns-in-Some-eq0-clause-follows : goal.returns-in-Some-eq0-clause-follows
@@ -55,8 +55,8 @@ pub returns-in-Some-eq0-clause-begun : goal.returns-in-Some-eq0-clause-begun
 returns-in-Some-eq0-clause-begun g c = λ u. untaken-none c.turns.self c.pop.new.self.items c.in-Some.id c.in-Some.ensures.items (c.turns.invariant.begun u)
 
 pub returns-in-Some-eq0-clause-branch : goal.returns-in-Some-eq0-clause-branch
-returns-in-Some-eq0-clause-branch g c = λ edge wanted counts k.
-    (refl, branch-candidate g.met.ID.Eq.laws edge wanted c.turns.self c.pop.new.self.items c.in-Some.id c.in-Some.ensures.items (c.turns.invariant.branch edge wanted counts k))
+returns-in-Some-eq0-clause-branch g c = λ edge required counts k.
+    (refl, branch-candidate g.met.ID.Eq.laws edge required c.turns.self c.pop.new.self.items c.in-Some.id c.in-Some.ensures.items (c.turns.invariant.branch edge required counts k))
 
 pub turns-preserved : goal.turns-preserved
 turns-preserved g c =
@@ -73,9 +73,9 @@ turns-preserved g c =
           (c.turns.invariant.listed i zero k);
       follows = λ targets k. follows-passed g.ID.PartialEq.eq _ targets c.pop.new.self.items c.turns.self.ids.items c.in-Some.id top (λ known. positive) (c.turns.invariant.follows targets k);
       begun = λ u. untaken-none c.turns.self c.pop.new.self.items c.in-Some.id top (c.turns.invariant.begun u);
-      branch = λ edge wanted counts k.
-          branch-blocked g.met.ID.Eq.laws edge wanted c.turns.self (record c.turns.self { ids = c.pop.new.self; blocked = c.push.new.self }) c.in-Some.id top c.in_ok-push-in-Some-get.ensures.items refl
-          (λ j same. counts.child j (ap is_positive (sym (alike j same)) ∙ positive)) (c.turns.invariant.branch edge wanted counts k);
+      branch = λ edge required counts k.
+          branch-blocked g.met.ID.Eq.laws edge required c.turns.self (record c.turns.self { ids = c.pop.new.self; blocked = c.push.new.self }) c.in-Some.id top c.in_ok-push-in-Some-get.ensures.items refl
+          (λ j same. counts.child j (ap is_positive (sym (alike j same)) ∙ positive)) (c.turns.invariant.branch edge required counts k);
     }
 
 pub returns-then-not-branch-clause-branch : goal.returns-then-not-branch-clause-branch
@@ -83,4 +83,4 @@ returns-then-not-branch-clause-branch g c =
     let left : c.pop.new.self.items ≡ [] = search rules in
     let none : c.turns.self.ids.items ≡ [] = c.in_default.ensures.items ∙ append-nil c.pop.new.self.items ∙ left in
     let ended = c.in_ok-refill.ensures.none c.if-not-branch.true in
-    λ edge wanted counts k. absurd (branch-ended g.met.ID.Eq.laws edge wanted _ counts c.turns.self none ended.1 ended.3 (c.turns.invariant.branch edge wanted counts k))
+    λ edge required counts k. absurd (branch-ended g.met.ID.Eq.laws edge required _ counts c.turns.self none ended.1 ended.3 (c.turns.invariant.branch edge required counts k))

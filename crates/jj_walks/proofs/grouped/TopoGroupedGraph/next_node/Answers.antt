@@ -8,7 +8,7 @@ use Rattle.jj_walks.proofs.grouped.TopoGroupedGraph.next_node.Goals as goal
 use Rattle.jj_walks.proofs.grouped.TopoGroupedGraph.next_node.Goals.{in-Unread, in-Nothing}
 
 pub reading-init : goal.reading-init
-reading-init g c = record { can_read = c.requires; as_id = refl; left = omega arith; reads = ([], [], record { given = refl; entries = tt }, λ h k. k) }
+reading-init g c = record { can_read = c.requires; as_id = refl; left = omega arith; reads = ([], [], record { yielded = refl; entries = tt }, λ h k. k) }
 
 pub returns-in-Node-clause-next : goal.returns-in-Node-clause-next
 returns-in-Node-clause-next g c = λ h k.

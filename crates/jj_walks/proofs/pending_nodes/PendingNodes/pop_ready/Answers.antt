@@ -8,7 +8,7 @@ use Rattle.jj_walks.specs.Grouped.{IsOfFirstBranch, yielded_nodes, has_edge, lea
 use Rattle.jj_walks.specs.PendingNodes.{item_of, listed_item}
 use Rattle.jj_walks.proofs.Branches.{branch-gave, climbs-reaches, counts-are, reaches-alike}
 use Rattle.jj_walks.proofs.HistoryLists.{find-passes}
-use Rattle.jj_walks.proofs.KeptHistories.{keeps-gave, keeps-taken, mapped-out, none-free, some-mapped, unread-wanted}
+use Rattle.jj_walks.proofs.KeptHistories.{keeps-gave, keeps-taken, mapped-out, none-free, some-mapped, unread-required}
 use Rattle.jj_walks.proofs.pending_nodes.PendingNodes.pop_ready.Goals as goal
 
 pub returns-in_default-clause-taken : goal.returns-in_default-clause-taken
@@ -28,9 +28,9 @@ returns-in_default-clause-taken g c = λ h k.
         history = history;
         branch = record {
           begun = λ e. (c.in_ok-id.ensures.begun (k.branch.begun e)).1;
-          first = λ none order wanted first.
-              let counts = counts-are g.met.ID.Eq.laws h _ (get eq old.counts) _ _ wanted alike none order first k.history in
-              absurd (true≢false (sym (branch (has_edge eq (read_nodes h)) wanted counts (k.branch.first none order wanted first)).0));
+          first = λ none order required first.
+              let counts = counts-are g.met.ID.Eq.laws h _ (get eq old.counts) _ _ required alike none order first k.history in
+              absurd (true≢false (sym (branch (has_edge eq (read_nodes h)) required counts (k.branch.first none order required first)).0));
         };
       },
       none-free eq h _ (get eq old.counts) new.ids.items (deque_items new.heads) none.0 none.1 history,
@@ -55,18 +55,18 @@ returns-in_default-remove-clause-taken g c = λ h k.
     let alike = λ (x : g.row.ID.Denot) (y : g.row.ID.Denot). lookup_congr eq g.met.ID.Eq.laws.congr old.counts.entries x y in
     let history = keeps-taken eq h (λ i. option_map listed_item (get eq old.nodes i)) (get eq old.counts) old.candidates.ids.items (c.take.new.self.ids.items ++ id ∷ []) (deque_items old.candidates.heads)
     (deque_items c.take.new.self.heads) listed follows k.history in
-    let wanted = unread-wanted eq h (λ i. option_map listed_item (get eq old.nodes i)) (get eq old.counts) old.candidates.ids.items (deque_items old.candidates.heads) id zero_count
+    let required = unread-required eq h (λ i. option_map listed_item (get eq old.nodes i)) (get eq old.counts) old.candidates.ids.items (deque_items old.candidates.heads) id zero_count
     (ap (option_map listed_item) absent) k.history in (
       record {
         history = rw (unchanged, pushed, heads) history;
         branch = record {
           begun = λ e. let some : None ≡ Some id = sym (c.in_ok-id.ensures.begun (k.branch.begun e)).0 ∙ is in cc;
-          first = λ none order wanted first.
-              let counts = counts-are g.met.ID.Eq.laws h _ (get eq old.counts) _ _ wanted alike none order first k.history in
-              inr (rw (pushed, blocked, children) (branch (has_edge eq (read_nodes h)) wanted counts (k.branch.first none order wanted first)).1);
+          first = λ none order required first.
+              let counts = counts-are g.met.ID.Eq.laws h _ (get eq old.counts) _ _ required alike none order first k.history in
+              inr (rw (pushed, blocked, children) (branch (has_edge eq (read_nodes h)) required counts (k.branch.first none order required first)).1);
         };
       },
-      (id, wanted.0, wanted.1),
+      (id, required.0, required.1),
     )
 
 pub returns-clause-taken : goal.returns-clause-taken
@@ -90,10 +90,10 @@ returns-clause-taken g c = λ h k.
     let heads : c.push_targets.new.self.heads ≡ c.take.new.self.heads = c.push_targets.ensures.heads in
     let branch = rw is at c.in_ok-id.ensures.branch in
     let its_id : eq e.id id ≡ true = find-passes eq (λ f. eq f.id id) _ e found.1 in
-    let first : yielded_nodes h ≡ [] → IsOfFirstBranch eq h e = λ none order wanted first.
-    let counts = counts-are g.met.ID.Eq.laws h _ (get eq old.counts) _ _ wanted alike none order first k.history in
-    let climbs = branch (has_edge eq (read_nodes h)) wanted counts (k.branch.first none order wanted first) in
-    reaches-alike g.met.ID.Eq.laws (read_nodes h) e.id id wanted its_id (climbs-reaches g.met.ID.Eq.laws (has_edge eq (read_nodes h)) wanted c.take.new.self.ids.items c.take.new.self.blocked.items id _ climbs.1) in (
+    let first : yielded_nodes h ≡ [] → IsOfFirstBranch eq h e = λ none order required first.
+    let counts = counts-are g.met.ID.Eq.laws h _ (get eq old.counts) _ _ required alike none order first k.history in
+    let climbs = branch (has_edge eq (read_nodes h)) required counts (k.branch.first none order required first) in
+    reaches-alike g.met.ID.Eq.laws (read_nodes h) e.id id required its_id (climbs-reaches g.met.ID.Eq.laws (has_edge eq (read_nodes h)) required c.take.new.self.ids.items c.take.new.self.blocked.items id _ climbs.1) in (
       e,
       sym found.2,
       record {

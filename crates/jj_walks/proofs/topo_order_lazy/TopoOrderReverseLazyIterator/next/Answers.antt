@@ -1,14 +1,14 @@
 use Rattle.std.proofs.Common.{◌≡◌, ◌+◌, ◌-◌, ◌^◌, ◌∙◌, sym, ap, arith, true≢false}
 use Rattle.std.specs.HashSet.{hash_set_len}
 use Rattle.jj_walks.specs.declared.topo_order_lazy.TopoOrderReverseLazy.{TopoOrderReverseLazy}
-use Rattle.jj_walks.specs.GroupedSteps.{answer_of}
+use Rattle.jj_walks.specs.GroupedSteps.{as_item}
 use Rattle.jj_walks.proofs.GoingOn.{goes_on, progress}
 use Rattle.jj_walks.proofs.topo_order_lazy.TopoOrderReverseLazyIterator.next.Goals as goal
 
 pub returns-clause-steps : goal.returns-clause-steps
 returns-clause-steps g c = record {
   yields = λ _. rw c.item_or_end.ensures.item c.next_node.ensures.yields;
-  failed = λ _ error fails. c.item_or_end.ensures.item ∙ ap answer_of (c.next_node.ensures.failed error fails);
+  failed = λ _ error fails. c.item_or_end.ensures.item ∙ ap as_item (c.next_node.ensures.failed error fails);
   again = λ on. goes_on _ c.next_node.result c.item_or_end.result c.item_or_end.new.has_ended c.item_or_end.ensures.item c.item_or_end.ensures.end on c.next_node.ensures.can_go;
   ends = c.item_or_end.ensures.end;
   ended = λ e. absurd (true≢false (sym e ∙ c.if-self.false));

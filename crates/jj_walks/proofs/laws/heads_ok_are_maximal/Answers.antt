@@ -1,0 +1,5 @@
+use Rattle.jj_walks.proofs.GraphLaws.{heads_are_maximal}
+use Rattle.jj_walks.proofs.laws.heads_ok_are_maximal.Goals as goal
+
+pub returns : goal.returns
+returns g c start id_fn neighbors_fn result = heads_are_maximal _ _ _ result
