@@ -1,5 +1,6 @@
 -- Line faults name the first faulty line.
 use Rattle.std.proofs.Common.{◌≡◌, ◌∙◌, ℕ, ◌+◌, ◌-◌, ◌<◌, ◌≤◌, zero, suc, Bool, true, false, List, [], ◌∷◌, length, take, drop, Result, Ok, Err, is_ok, refl, ap, sym, subst, arith, true≢false}
+use Rattle.std.specs.Result.{result_map_both}
 use Rattle.jj_program.specs.declared.fault.Fault.{Fault}
 use Rattle.jj_program.specs.declared.fault.Fault.TheVariants.{Memory, Line}
 use Rattle.jj_program.specs.declared.fault.LineFault.{LineFault}
@@ -7,11 +8,12 @@ use Rattle.jj_program.specs.declared.program.Command.TheVariants.{Walk, Merge, G
 use Rattle.jj_program.specs.FirstFaults.{BeginAlike, GivesFirstFault}
 use Rattle.jj_program.specs.GraphCommand.{graph_step, graph_start}
 use Rattle.jj_program.specs.HashCommand.{hash_step}
-use Rattle.jj_program.specs.Lines.{lines_of, fields_of, at_line, after_line, after_lines, result_and_then}
+use Rattle.jj_program.specs.Lines.{lines_of, fields_of, after_line, after_lines, result_and_then}
 use Rattle.jj_program.specs.MergeCommand.{merge_step}
+use Rattle.jj_program.specs.declared.file_set.matcher.FileSet.{FileSet}
 use Rattle.jj_program.specs.SetTrees.{SetTree}
 use Rattle.jj_paths.specs.Paths.{Path}
-use Rattle.jj_program.specs.WalkCommand.{WalkState, NamedSet, walk_step, walk_start, walk_end, only_set}
+use Rattle.jj_program.specs.WalkCommand.{WalkState, walk_step, walk_start, only_set, WalkRequest}
 
 -- 1. Faults of different lines differ.
 
@@ -47,7 +49,7 @@ same_tail x y xs ys e = ap (drop 1) e
 
 module _ {S : Type 0} (step : S → List (List ℕ) → Result S LineFault) where
   -- a line's fault has its number
-  own_at : (number : ℕ) (r : Result S LineFault) (k : ℕ) (kind : LineFault) → at_line number r ≡ Err (Line k kind) → k ≡ number
+  own_at : (number : ℕ) (r : Result S LineFault) (k : ℕ) (kind : LineFault) → result_map_both (λ state. state) (Line number) r ≡ Err (Line k kind) → k ≡ number
   own_at number (Ok state) k kind e = absurd (ok≢err state (Line k kind) e)
   own_at number (Err other) k kind e = sym (ap (λ r. line_named (fault_or Memory r)) e)
 
@@ -119,12 +121,16 @@ module _ {S : Type 0} (step : S → List (List ℕ) → Result S LineFault) wher
 
 -- 4. The commands.
 
-not_matchers : (marks : List Path) (stack : List (SetTree NamedSet)) (number : ℕ) (kind : LineFault) → only_set marks stack ≡ Err (Line number kind) → ⊥
+not_matchers : (marks : List Path) (stack : List (SetTree FileSet)) (number : ℕ) (kind : LineFault) → only_set marks stack ≡ Err (Line number kind) → ⊥
 not_matchers marks [] number kind e = true≢false (sym (ap (λ r. names_line (fault_or Memory r)) e))
 not_matchers marks (set ∷ []) number kind e = ok≢err _ (Line number kind) e
 not_matchers marks (set ∷ other ∷ stack) number kind e = true≢false (sym (ap (λ r. names_line (fault_or Memory r)) e))
 
-walk_lines_fail : (r : Result WalkState Fault) (number : ℕ) (kind : LineFault) → walk_end r ≡ Err (Line number kind) → r ≡ Err (Line number kind)
+-- the request of the state after the lines
+abbrev only : WalkState → Result WalkRequest Fault
+only state = only_set state.marks state.stack
+
+walk_lines_fail : (r : Result WalkState Fault) (number : ℕ) (kind : LineFault) → result_and_then r only ≡ Err (Line number kind) → r ≡ Err (Line number kind)
 walk_lines_fail (Ok state) number kind e = absurd (not_matchers state.marks state.stack number kind e)
 walk_lines_fail (Err fault) number kind e = ap Err (ap (fault_or fault) e)
 
@@ -136,7 +142,7 @@ gives_first_fault Walk text number kind e =
     let lines = walk_lines_fail _ number kind e in
     record {
       there = whole walk_step walk_start text number kind lines;
-      decided = λ other alike. ap walk_end (whole_decided walk_step walk_start text other number kind lines alike);
+      decided = λ other alike. ap (λ r. result_and_then r only) (whole_decided walk_step walk_start text other number kind lines alike);
       first = λ other earlier fault alike less f. earlier_is_not number earlier
           (whole_first walk_step walk_start text other number earlier kind fault lines alike (walk_lines_fail _ earlier fault f)) less;
     }

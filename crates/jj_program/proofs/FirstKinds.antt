@@ -1,12 +1,13 @@
 -- Parsing by the table of a command finds the first kind of fault of a line, by cases on its row.
 use Rattle.std.proofs.Common.{◌≡◌, ◌∙◌, ℕ, Bool, true, false, cond, nat_lt, List, [], ◌∷◌, map, Option, Some, None, is_some, Result, Ok, Err, refl, ap}
-use Rattle.std.specs.Prelude.{◌&&◌, not}
+use Rattle.std.specs.Prelude.{◌&&◌, not, ok_or, option_map}
 use Rattle.std.specs.List.{concat, find, list_all, list_any}
 use Rattle.std.specs.Str.Parse.{digits_value}
+use Rattle.jj_content.specs.Blake2b.{blake2b}
 use Rattle.jj_globs.specs.GlobMeaning.{GlobSpec}
 use Rattle.jj_paths.specs.Paths.{Path}
 use Rattle.jj_program.specs.declared.fault.LineFault.{LineFault}
-use Rattle.jj_program.specs.declared.fault.LineFault.TheVariants.{BadFieldCount, EmptyStack, BadNumber, RepeatedNode, BadHex}
+use Rattle.jj_program.specs.declared.fault.LineFault.TheVariants.{BadFieldCount, BadPath, BadGlob, EmptyStack, BadNumber, RepeatedNode, BadHex}
 use Rattle.jj_program.specs.declared.forms.Shape.{Shape}
 use Rattle.jj_program.specs.declared.graph_command.GraphForm.{GraphForm}
 use Rattle.jj_program.specs.declared.graph_command.GraphForm.TheVariants.{Node, Order, Heads, Common}
@@ -21,13 +22,14 @@ use Rattle.jj_program.specs.declared.program.Command.TheVariants.{Walk, Merge, G
 use Rattle.jj_program.specs.declared.walk_command.TheConstants.{WALK_FORMS}
 use Rattle.jj_program.specs.declared.walk_command.WalkForm.{WalkForm}
 use Rattle.jj_program.specs.declared.walk_command.WalkForm.TheVariants.{Mark, Push, Combine}
-use Rattle.jj_program.specs.Forms.{Kind, admits, admitted, both, first_fields, form_line, form_named, second_fields, table, values_at}
+use Rattle.jj_program.specs.Forms.{Kind, admits, first_fields, form_line, form_named, second_fields, table, values_at}
 use Rattle.jj_program.specs.GraphCommand.{graph_line, number_kind}
-use Rattle.jj_program.specs.HashCommand.{bytes_of_hex, hash_line, hashed, or_bad_hex}
-use Rattle.jj_program.specs.LineFaults.{fails_by, graph_fails, hash_fails, is_bad_hex, is_repeated, kind_of_fields, kinds, lists_node, sets_left, walk_fails}
+use Rattle.jj_program.specs.HashCommand.{bytes_of_hex, hash_line, hashed}
+use Rattle.jj_program.specs.LineFaults.{fails_by, graph_fails, hash_fails, is_repeated, kind_of_fields, kinds, lists_node, sets_left, walk_fails}
 use Rattle.jj_program.specs.Lines.{fields_of, result_and_then}
 use Rattle.jj_program.specs.Numbers.{is_number}
 use Rattle.jj_program.specs.WalkCommand.{glob_kind, path_kind, walk_line}
+use Rattle.jj_program.proofs.ParsedForms.{admitted, both}
 
 -- 1. The fault of a line by the table of its command.
 
@@ -109,22 +111,28 @@ graph_first earlier fields (Some (shape, action)) =
 
 hash_first : (fields : List (List ℕ)) (form : Option (Shape × HashInput)) → kind_by {L = List ℕ} (λ bytes. None) (result_and_then (admitted form fields) (λ line. hashed line.0 line.2)) ≡ find (fails_by (hash_fails fields) fields form) kinds
 hash_first fields None = refl
-hash_first fields (Some (shape, input)) = by (admits shape fields)
+hash_first fields (Some (shape, input)) = by input (admits shape fields)
   where
-    hex : (found : Option (List ℕ)) → kind_by {L = List ℕ} (λ bytes. None) (or_bad_hex found) ≡ cond {A = Option LineFault} (not (is_some found)) (Some BadHex) None
+    parsed : HashInput → Bool → Option LineFault
+    parsed input c = kind_by {L = List ℕ} (λ bytes. None) (result_and_then (cond {A = Result (HashInput × Shape × List (List ℕ)) LineFault} c (Ok (input, shape, fields)) (Err BadFieldCount)) (λ line. hashed line.0 line.2))
+
+    hex : (found : Option (List ℕ)) → kind_by {L = List ℕ} (λ bytes. None) (ok_or (option_map blake2b found) BadHex) ≡ cond {A = Option LineFault} (not (is_some found)) (Some BadHex) None
     hex (Some bytes) = refl
     hex None = refl
 
-    content : (input : HashInput) → kind_by {L = List ℕ} (λ bytes. None) (hashed input fields) ≡ cond {A = Option LineFault} (is_bad_hex input fields) (Some BadHex) None
-    content Raw = hex (bytes_of_hex (concat fields))
-    content Text = refl
-    content List' = refl
-    content Merge' = refl
+    raw : (c : Bool) → parsed Raw c ≡ cond {A = Option LineFault} (not c) (Some BadFieldCount) (cond {A = Option LineFault} (not (is_some (bytes_of_hex (concat fields)))) (Some BadHex) None)
+    raw true = hex (bytes_of_hex (concat fields))
+    raw false = refl
 
-    by : (c : Bool) → kind_by {L = List ℕ} (λ bytes. None) (result_and_then (cond {A = Result (HashInput × Shape × List (List ℕ)) LineFault} c (Ok (input, shape, fields)) (Err BadFieldCount)) (λ line. hashed line.0 line.2))
-        ≡ cond {A = Option LineFault} (not c) (Some BadFieldCount) (cond {A = Option LineFault} (is_bad_hex input fields) (Some BadHex) None)
-    by true = content input
-    by false = refl
+    plain : (input : HashInput) (digest : List ℕ) → hashed input fields ≡ Ok digest → (c : Bool) → parsed input c ≡ cond {A = Option LineFault} (not c) (Some BadFieldCount) None
+    plain input digest is true = ap (kind_by {L = List ℕ} (λ bytes. None)) is
+    plain input digest is false = refl
+
+    by : (input : HashInput) (c : Bool) → parsed input c ≡ cond {A = Option LineFault} (not c) (Some BadFieldCount) (find (hash_fails fields (shape, input)) (BadPath ∷ BadGlob ∷ EmptyStack ∷ BadNumber ∷ RepeatedNode ∷ BadHex ∷ []))
+    by Raw c = raw c
+    by Text c = plain Text _ refl c
+    by List' c = plain List' _ refl c
+    by Merge' c = plain Merge' _ refl c
 
 pub first_kind : (command : Command) (earlier fields : List (List ℕ)) → kind_by_table command earlier fields ≡ kind_of_fields command earlier fields
 first_kind Walk earlier [] = refl

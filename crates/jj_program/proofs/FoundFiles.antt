@@ -9,15 +9,17 @@ use Rattle.jj_matchers.proofs.FoundMarks.{finds_marks, finds_in_order}
 use Rattle.jj_matchers.proofs.PathLists.{Decides-is_listed, below_base, is_at_or_below-append}
 use Rattle.jj_matchers.proofs.PatternSound.{Decides-is_accepted}
 use Rattle.jj_program.specs.declared.file_set.Combination.TheVariants.{Union, Difference, Intersection}
+use Rattle.jj_program.specs.declared.file_set.matcher.FileSet.{FileSet}
+use Rattle.jj_program.specs.declared.file_set.matcher.FileSet.TheVariants.{Everything, Nothing, Files, Prefix, Globs}
 use Rattle.jj_program.specs.FoundFiles.{IsNamed, IsIn, AreFound, FindsItsFiles}
 use Rattle.jj_matchers.specs.Marks.{IsMarkedTree}
 use Rattle.jj_program.specs.SetTrees.{SetTree, one, both}
-use Rattle.jj_program.specs.Walked.{named_accepts, accepted_by, answered_by}
-use Rattle.jj_program.specs.WalkCommand.{NamedSet, Everything, Nothing, Files, Prefix, Globs, WalkRequest}
+use Rattle.jj_program.specs.Walked.{leaf_spec, spec_of}
+use Rattle.jj_program.specs.WalkCommand.{WalkRequest}
 
 -- 1. A set's test is its meaning.
 
-named : (set : NamedSet) (path : Path) → Decides (named_accepts path set) (IsNamed set path)
+named : (set : FileSet) (path : Path) → Decides ((leaf_spec set).accepts path) (IsNamed set path)
 named Everything path = ((λ h. tt), (λ h. refl))
 named Nothing path = ((λ h. absurd (true≢false (sym h))), (λ h. absurd h))
 named (Files paths) path = Decides-is_listed paths path
@@ -47,7 +49,7 @@ in_both : (a b : Bool) (A B : Type 0) → Decides a A → Decides b B → Decide
 in_both false b A B h k = ((λ e. absurd (true≢false (sym e))), (λ e. absurd (true≢false (sym (h.1 e.0)))))
 in_both true b A B h k = ((λ e. (h.0 refl, k.0 e)), (λ e. k.1 e.1))
 
-is_in : (set : SetTree NamedSet) (path : Path) → Decides (accepted_by set path) (IsIn set path)
+is_in : (set : SetTree FileSet) (path : Path) → Decides ((spec_of set).accepts path) (IsIn set path)
 is_in (one set) path = named set path
 is_in (both Union first second) path = either _ _ _ _ (is_in first path) (is_in second path)
 is_in (both Difference first second) path = alone _ _ _ _ (is_in first path) (is_in second path)
@@ -55,15 +57,15 @@ is_in (both Intersection first second) path = in_both _ _ _ _ (is_in first path)
 
 -- 2. The files of a walk.
 
-are_found : (request : WalkRequest) (tree : Tree Bool) → IsMarkedTree request.marks tree → AreFound request (files_of (accepted_by request.set) tree)
+are_found : (request : WalkRequest) (tree : Tree Bool) → IsMarkedTree request.marks tree → AreFound request (files_of (spec_of request.set).accepts tree)
 are_found request tree is = record {
   exact = λ path.
-      let found = finds_marks request.marks tree is (accepted_by request.set) path in
+      let found = finds_marks request.marks tree is (spec_of request.set).accepts path in
       let within = is_in request.set path in (
         (λ h. let file = found.0 h in (file.0, file.1, within.0 file.2)),
         (λ h. found.1 (h.0, h.1, within.1 h.2)),
       );
-  ordered = finds_in_order request.marks tree is (accepted_by request.set);
+  ordered = finds_in_order request.marks tree is (spec_of request.set).accepts;
 }
 
 pub finds_its_files : FindsItsFiles
@@ -71,8 +73,8 @@ finds_its_files text output h =
     let request = h.0 in
     let tree = h.2.0 in (
       request,
-      files_of (accepted_by request.set) tree,
-      entered_by (answered_by request.set) tree,
+      files_of (spec_of request.set).accepts tree,
+      entered_by (spec_of request.set).visits tree,
       h.1,
       are_found request tree h.2.1,
       h.2.2,

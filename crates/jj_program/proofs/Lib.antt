@@ -1,5 +1,7 @@
 pub mod Steps
 pub mod Requests
+pub mod MergeRequests
+pub mod ParsedForms
 pub mod FieldValues
 pub mod FormRows
 pub mod DecidedTerms
@@ -12,7 +14,7 @@ pub mod OneTree
 pub mod Numbers
 pub mod AskedIds
 pub mod ListedGraphs
-pub mod ListedNeighbors
+pub mod ListedEdges
 pub mod Numberings
 pub mod NumberedWalks
 pub mod GraphClosures
@@ -25,12 +27,10 @@ pub mod FirstFaults
 pub mod FirstKinds
 pub mod LineFaults
 pub mod SamePatterns
-pub mod SetPasses
-pub mod SetBuilds
+pub mod SetCode
 pub mod SetMatchers
-pub mod Stands
+pub mod AlikeMatchers
 pub mod GlobFields
 pub mod SetVisits
-pub mod SetCounts
 pub mod Dashes
 pub mod Said

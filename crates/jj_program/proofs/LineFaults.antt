@@ -2,6 +2,7 @@
 use Rattle.std.proofs.Common.{◌≡◌, ◌∙◌, ◌==◌, ◌||◌, ℕ, ◌+◌, ◌<◌, Bool, true, false, cond, nat_lt, List, [], ◌∷◌, ◌++◌, length, Option, Some, None, is_some, Result, Ok, Err, refl, ap, sym, subst, arith, append_assoc, append-nil}
 use Rattle.std.specs.List.{count_by, list_any}
 use Rattle.std.specs.Option.{option_map, option_or}
+use Rattle.std.specs.Result.{result_map_both}
 use Rattle.std.proofs.lemmas.Bool.{le-ltb, lt-ltb}
 use Rattle.std.proofs.lemmas.List.Folds.{list_any-append}
 use Rattle.std.proofs.lemmas.List.Sums.{sum_by_push}
@@ -19,12 +20,13 @@ use Rattle.jj_program.specs.declared.program.Command.TheVariants.{Walk, Merge, G
 use Rattle.jj_globs.specs.GlobMeaning.{GlobSpec}
 use Rattle.jj_paths.specs.Paths.{Path}
 use Rattle.jj_program.specs.GraphCommand.{GraphRequest, Order as Order', Heads as Heads', Common as Common', GraphState, graph_start, graph_line, graph_step, graph_act, graph_state, listed_more}
-use Rattle.jj_program.specs.HashCommand.{hash_line, digest_of, digest_line, hash_step, hash_output}
+use Rattle.jj_program.specs.HashCommand.{hash_line, digest_line, hash_step, hash_output}
 use Rattle.jj_program.specs.LineFaults.{kind_of_fields, first_fault, pushes, combines, sets_left, lists_node, LeavesOneSet, IsToldBy, AnswersFirstFault}
-use Rattle.jj_program.specs.Lines.{lines_of, fields_of, at_line, after_lines, result_and_then}
+use Rattle.jj_program.specs.Lines.{lines_of, fields_of, after_lines, result_and_then}
 use Rattle.jj_program.specs.MergeCommand.{merge_step, merge_requests}
-use Rattle.jj_program.specs.SetTrees.{SetTree, one, both}
-use Rattle.jj_program.specs.WalkCommand.{NamedSet, WalkState, walk_start, walk_line, walk_step, walk_act, named_set, with_combined, walk_end, walk_request, only_set}
+use Rattle.jj_program.specs.declared.file_set.matcher.FileSet.{FileSet}
+use Rattle.jj_program.specs.SetTrees.{SetTree, one, both, combined_stack}
+use Rattle.jj_program.specs.WalkCommand.{WalkState, walk_start, walk_line, walk_step, walk_act, named_set, walk_request, only_set}
 use Rattle.jj_program.proofs.FirstKinds.{first_kind, graph_refuses, kind_by, kind_by_table, walk_refuses}
 
 -- 1. The transition at a line agrees with the definition of its fault.
@@ -60,7 +62,7 @@ module _ {S : Type 0} (command : Command) (step : S → List (List ℕ) → Resu
   -- the first line, then the others
   at_first : (number : ℕ) (earlier lines : List (List ℕ)) (r : Result S LineFault) (kind : Option LineFault) (line : List ℕ) → HasKind r kind → After r (Keeps (earlier ++ line ∷ []))
       → ((next : S) → Keeps (earlier ++ line ∷ []) next → Told (Keeps ((earlier ++ line ∷ []) ++ lines)) (after_lines step (number + 1) next lines) (first_fault command (earlier ++ line ∷ []) (number + 1) lines))
-      → Told (Keeps ((earlier ++ line ∷ []) ++ lines)) (result_and_then (at_line number r) (λ next. after_lines step (number + 1) next lines))
+      → Told (Keeps ((earlier ++ line ∷ []) ++ lines)) (result_and_then (result_map_both (λ next. next) (Line number) r) (λ next. after_lines step (number + 1) next lines))
       (option_or (option_map (Line number) kind) (first_fault command (earlier ++ line ∷ []) (number + 1) lines))
   at_first number earlier lines (Ok next) kind line agrees after deep =
       let P : Option LineFault → Type 0 = λ k. Told (Keeps ((earlier ++ line ∷ []) ++ lines)) (after_lines step (number + 1) next lines) (option_or (option_map (Line number) k) (first_fault command (earlier ++ line ∷ []) (number + 1) lines)) in
@@ -79,7 +81,7 @@ module _ {S : Type 0} (command : Command) (step : S → List (List ℕ) → Resu
       let both = steps earlier state line keeps in
       let agrees : HasKind (step state (fields_of line)) (kind_of_fields command earlier (fields_of line)) = subst (HasKind (step state (fields_of line))) (first_kind command earlier (fields_of line)) both.0 in
       let deep = at_first number earlier lines (step state (fields_of line)) (kind_of_fields command earlier (fields_of line)) line agrees both.1 (λ next kept. told (number + 1) (earlier ++ line ∷ []) lines next kept) in
-      let P : List (List ℕ) → Type 0 = λ all. Told (Keeps all) (result_and_then (at_line number (step state (fields_of line))) (λ next. after_lines step (number + 1) next lines))
+      let P : List (List ℕ) → Type 0 = λ all. Told (Keeps all) (result_and_then (result_map_both (λ next. next) (Line number) (step state (fields_of line))) (λ next. after_lines step (number + 1) next lines))
       (option_or (option_map (Line number) (kind_of_fields command earlier (fields_of line))) (first_fault command (earlier ++ line ∷ []) (number + 1) lines)) in
       subst P (append_assoc earlier (line ∷ []) lines) deep
 
@@ -120,8 +122,11 @@ walk_steps earlier state line high = by (walk_line (fields_of line)) refl
     few_left : (n : ℕ) → n < 2 → length state.stack ≡ n → nat_lt (sets_left earlier) 2 ≡ true
     few_left n few tall = let left : sets_left earlier < 2 = omega (arith, high, tall, few) in lt-ltb (sets_left earlier) 2 left
 
-    combined : (combination : Combination) (paths : List Path) (globs : List GlobSpec) (stack : List (SetTree NamedSet)) → state.stack ≡ stack → walk_line (fields_of line) ≡ Ok (Combine combination, paths, globs)
-        → HasKind (with_combined state.marks combination stack) (walk_refuses earlier (Combine combination, paths, globs)) × After (with_combined state.marks combination stack) (IsHigh (earlier ++ line ∷ []))
+    acted : Combination → List (SetTree FileSet) → Result WalkState LineFault
+    acted combination stack = cond (nat_lt (length stack) 2) (Err EmptyStack) (Ok (record { marks = state.marks; stack = combined_stack combination stack }))
+
+    combined : (combination : Combination) (paths : List Path) (globs : List GlobSpec) (stack : List (SetTree FileSet)) → state.stack ≡ stack → walk_line (fields_of line) ≡ Ok (Combine combination, paths, globs)
+        → HasKind (acted combination stack) (walk_refuses earlier (Combine combination, paths, globs)) × After (acted combination stack) (IsHigh (earlier ++ line ∷ []))
     combined combination paths globs [] is found =
         let few : nat_lt (sets_left earlier) 2 ≡ true = few_left 0 (omega arith) (ap length is) in
         (ap (λ b. cond b (Some EmptyStack) None) few, tt)
@@ -131,7 +136,8 @@ walk_steps earlier state line high = by (walk_line (fields_of line)) refl
     combined combination paths globs (second ∷ first ∷ stack) is found =
         let tall = ap length is in
         let enough : nat_lt (sets_left earlier) 2 ≡ false = le-ltb (sets_left earlier) 2 (omega (arith, high, tall)) in
-        (ap (λ b. cond b (Some EmptyStack) None) enough, higher earlier state (record { marks = state.marks; stack = both combination first second ∷ stack }) line _ found high (omega (arith, tall)))
+        let long : nat_lt (length (second ∷ first ∷ stack)) 2 ≡ false = le-ltb (length (second ∷ first ∷ stack)) 2 (omega arith) in
+        rw long (ap (λ b. cond b (Some EmptyStack) None) enough, higher earlier state (record { marks = state.marks; stack = both combination first second ∷ stack }) line _ found high (omega (arith, tall)))
 
     by : (r : Result (WalkForm × List Path × List GlobSpec) LineFault) → walk_line (fields_of line) ≡ r → Tells r
     by (Err kind) is = (refl, tt)
@@ -142,12 +148,12 @@ walk_steps earlier state line high = by (walk_line (fields_of line)) refl
 walk_told : (text : List ℕ) → IsToldBy Walk (lines_of text) (walk_request text)
 walk_told text = by (after_lines walk_step 1 walk_start (lines_of text)) (told Walk walk_step IsHigh (λ earlier state high. higher earlier state state [] (Err UnknownCommand) refl high refl) walk_steps 1 [] (lines_of text) walk_start refl)
   where
-    left : (marks : List Path) (stack : List (SetTree NamedSet)) → first_fault Walk [] 1 (lines_of text) ≡ None → length stack ≡ sets_left (lines_of text) → IsToldBy Walk (lines_of text) (only_set marks stack)
+    left : (marks : List Path) (stack : List (SetTree FileSet)) → first_fault Walk [] 1 (lines_of text) ≡ None → length stack ≡ sets_left (lines_of text) → IsToldBy Walk (lines_of text) (only_set marks stack)
     left marks [] none high = (none, high, λ e. absurd (omega (arith, e)))
     left marks (set ∷ []) none high = (none, sym high)
     left marks (set ∷ other ∷ stack) none high = (none, high, λ e. absurd (omega (arith, e)))
 
-    by : (r : Result WalkState Fault) → Told (IsHigh (lines_of text)) r (first_fault Walk [] 1 (lines_of text)) → IsToldBy Walk (lines_of text) (walk_end r)
+    by : (r : Result WalkState Fault) → Told (IsHigh (lines_of text)) r (first_fault Walk [] 1 (lines_of text)) → IsToldBy Walk (lines_of text) (result_and_then r (λ state. only_set state.marks state.stack))
     by (Ok state) h = let high = h.1 in left state.marks state.stack h.0 (omega (arith, high))
     by (Err ReadInput) h = absurd h
     by (Err NotUtf8) h = absurd h
@@ -234,7 +240,7 @@ hash_told : (text : List ℕ) → IsToldBy Hash (lines_of text) (hash_output tex
 hash_told text = plain Hash (λ state. Unit {0}) (lines_of text) tt (hash_output text)
     (told Hash hash_step IsAny (λ earlier state any. tt) (λ earlier state line any. (digests state (hash_line (fields_of line)), after_any (hash_step state (fields_of line)))) 1 [] (lines_of text) [] tt)
   where
-    digests : (output : List ℕ) (r : Result (List ℕ) LineFault) → HasKind (result_and_then (digest_of r) (λ digest. Ok (output ++ digest_line digest))) (kind_by (λ line. None) r)
+    digests : (output : List ℕ) (r : Result (List ℕ) LineFault) → HasKind (result_and_then r (λ digest. Ok (output ++ digest_line digest))) (kind_by (λ line. None) r)
     digests output (Ok bytes) = refl
     digests output (Err kind) = refl
 

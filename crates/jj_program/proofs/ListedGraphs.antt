@@ -1,5 +1,5 @@
 -- Listed graphs: cycles, and sorted results of walks.
-use Rattle.std.proofs.Common.{◌≡◌, ◌∙◌, Iter, ℕ, List, [], ◌∷◌, Result, Ok, Err, None, ap, refl, eqb, map}
+use Rattle.std.proofs.Common.{◌≡◌, ◌∙◌, Iter, ℕ, List, [], ◌∷◌, Result, Ok, Err, ap, refl, sym, eqb, map}
 use Rattle.std.specs.Prelude.{◌++◌}
 use Rattle.std.specs.Iterator.{YieldsFirst}
 use Rattle.std.specs.declared.iter.Copied.{Copied}
@@ -8,24 +8,20 @@ use Rattle.std.specs.Slice.Iter.{iter_rest}
 use Rattle.std.proofs.iter.Yields.{copies, fronts}
 use Rattle.std.proofs.lemmas.Iterator.{YieldsList-from_slice}
 use Rattle.std.proofs.lemmas.Iterator.Consumers.{YieldsList-from_copied, YieldsList-from_first}
-use Rattle.std.specs.Option.{option_map}
 use Rattle.std.specs.List.Sorted.{IsPermutation, IsSorted, IsStrictlyIncreasing}
 use Rattle.std.specs.Ordering.{nat_cmp}
-use Rattle.std.specs.BTreeMap.{BTreeMap, is_at}
-use Rattle.std.specs.Global.{Global}
-use Rattle.std.specs.Map.{lookup}
-use Rattle.std.specs.declared.vec.Vec.{Vec}
+use Rattle.std.proofs.lemmas.List.{map-id}
 use Rattle.std.proofs.lemmas.List.Sorted.{Contains-permutation, IsPermutation-sym, IsNonDecreasingBy-from_sort}
 use Rattle.std.proofs.lemmas.Map.Keys.{IsDistinct-IsPermutation, IsStrictlyIncreasing-from_distinct}
 use Rattle.jj_dag.specs.CommonNodes.{AreClosestCommon}
 use Rattle.jj_dag.specs.Graph.{Graph, IsAcyclicFrom, AreMaximalElements}
 use Rattle.jj_dag.specs.FallibleGraphs.{BeginsWith}
 use Rattle.jj_dag.proofs.FailingWalks.{begun_are}
-use Rattle.jj_program.specs.declared.graph_walks.SoundIds.{SoundIds}
-use Rattle.jj_program.specs.SoundIds.{sound_left}
+use Rattle.jj_program.specs.declared.graph_walks.SoundNodes.{SoundNodes}
+use Rattle.jj_program.specs.SoundNodes.{sound_left}
 use Rattle.jj_dag.specs.Walk.{DrainsTo}
 use Rattle.jj_dag.proofs.Walking.{drained_are, eqb-flip, Contains-from_has}
-use Rattle.jj_program.specs.Neighbors.{listed_in, HoldsNeighbors}
+use Rattle.jj_program.specs.Neighbors.{HoldsNeighbors}
 use Rattle.jj_program.specs.GraphCommand.{HasCycle}
 
 -- if no id reaches a cycle, the graph is acyclic
@@ -38,14 +34,14 @@ pub none_reached : (graph : Graph) (starts : List ℕ) → (HasCycle graph → �
 none_reached graph starts none a reached cycle = none (a, cycle)
 
 -- the items of a copied slice iterator
-pub copied_ids : (value : Copied (Iter ℕ)) (xs ids : List ℕ) → iter_rest (copied_source value) ≡ ids → DrainsTo (λ s t. t ≡ s) (copies fronts) value xs → map (λ x. x) xs ≡ ids
-copied_ids value xs ids rest d = drained_are (λ s t. t ≡ s) (copies fronts) value xs (λ x. x) ids (λ it b. YieldsList-from_copied (YieldsList-from_slice ids (ap (λ s. iter_rest (copied_source s)) b ∙ rest))) d
+pub copied_nodes : (value : Copied (Iter ℕ)) (xs ids : List ℕ) → iter_rest (copied_source value) ≡ ids → DrainsTo (λ s t. t ≡ s) (copies fronts) value xs → xs ≡ ids
+copied_nodes value xs ids rest d = sym (map-id xs) ∙ drained_are (λ s t. t ≡ s) (copies fronts) value xs (λ x. x) ids (λ it b. YieldsList-from_copied (YieldsList-from_slice ids (ap (λ s. iter_rest (copied_source s)) b ∙ rest))) d
 
--- an iterator over ids does not fail
-pub no_beginning : (value : SoundIds) (xs : List (Result ℕ ℕ)) (e : ℕ) → BeginsWith (λ s t. t ≡ s) (YieldsFirst sound_left) value (xs ++ Err e ∷ []) → ⊥
+-- an iterator over nodes does not fail
+pub no_beginning : (value : SoundNodes) (xs : List (Result ℕ ℕ)) (e : ℕ) → BeginsWith (λ s t. t ≡ s) (YieldsFirst sound_left) value (xs ++ Err e ∷ []) → ⊥
 no_beginning value xs e d =
     let begun = begun_are (λ s t. t ≡ s) (YieldsFirst sound_left) value (xs ++ Err e ∷ []) (λ x. x) (sound_left value) (λ it b. YieldsList-from_first (λ x. x) sound_left (sound_left value) (ap sound_left b)) d in
-    has_error xs value.ids.now begun.0 begun.1
+    has_error xs value.nodes.now begun.0 begun.1
   where
     has_error : (ys : List (Result ℕ ℕ)) (ids : List ℕ) (rest : List (Result ℕ ℕ)) → map (λ id. Ok id) ids ≡ map (λ x. x) (ys ++ Err e ∷ []) ++ rest → ⊥
     has_error [] [] rest same = cc
@@ -53,9 +49,9 @@ no_beginning value xs e d =
     has_error (y ∷ ys) [] rest same = cc
     has_error (y ∷ ys) (id ∷ ids) rest same = let more : map (λ n. Ok n) ids ≡ map (λ x. x) (ys ++ Err e ∷ []) ++ rest = cc in has_error ys ids rest more
 
--- ids in the fallible form
-pub given_ids : (value : SoundIds) (xs : List ℕ) → DrainsTo (λ s t. t ≡ s) (YieldsFirst sound_left) value (map (λ x. Ok x) xs) → map (λ x. x) xs ≡ value.ids.now
-given_ids value xs d = same xs value.ids.now (drained_are (λ s t. t ≡ s) (YieldsFirst sound_left) value (map (λ x. Ok x) xs) (λ x. x) (sound_left value)
+-- nodes in the fallible form
+pub given_nodes : (value : SoundNodes) (xs : List ℕ) → DrainsTo (λ s t. t ≡ s) (YieldsFirst sound_left) value (map (λ x. Ok x) xs) → xs ≡ value.nodes.now
+given_nodes value xs d = sym (map-id xs) ∙ same xs value.nodes.now (drained_are (λ s t. t ≡ s) (YieldsFirst sound_left) value (map (λ x. Ok x) xs) (λ x. x) (sound_left value)
     (λ it b. YieldsList-from_first (λ x. x) sound_left (sound_left value) (ap sound_left b)) d)
   where
     same : (ys ids : List ℕ) → map (λ x. x) (map {B = Result ℕ ℕ} (λ x. Ok x) ys) ≡ map (λ id. Ok id) ids → map (λ x. x) ys ≡ ids
@@ -66,10 +62,6 @@ given_ids value xs d = same xs value.ids.now (drained_are (λ s t. t ≡ s) (Yie
         let first : y ≡ id = cc in
         let rest : map (λ x. x) (map {B = Result ℕ ℕ} (λ x. Ok x) ys) ≡ map (λ n. Ok n) ids = cc in
         ap (λ n. n ∷ map (λ x. x) ys) first ∙ ap (λ l. id ∷ l) (same ys ids rest)
-
--- an empty map has no adjacency list
-pub listed_in-empty : (m : BTreeMap ℕ (Vec ℕ Global)) → m.entries ≡ [] → listed_in m ≡ (λ id. None)
-listed_in-empty m empty = λ i id. option_map (λ v. v.items) (lookup (is_at (nat_cmp id)) (empty i))
 
 -- maximal elements under permutation
 pub maximal_permuted : (graph : Graph) (ids found sorted : List ℕ) → IsPermutation found sorted → AreMaximalElements graph ids found → AreMaximalElements graph ids sorted

@@ -1,5 +1,5 @@
 -- `parse` on strings without a leading plus or zero.
-use Rattle.std.proofs.Common.{◌≡◌, ◌≢◌, ℕ, ◌<◌, ◌^◌, List, Bool, true, false, Result, Ok, Err, Some, None, length, get_or, refl, sym, ap, ◌∙◌, arith, rules, subst, nat_lt, suc, lit<}
+use Rattle.std.proofs.Common.{◌≡◌, ◌≢◌, ℕ, ◌<◌, ◌^◌, List, Bool, true, false, Option, Result, Ok, Err, Some, None, cond, length, slice_index, get_or, refl, sym, ap, ◌∙◌, arith, rules, subst, nat_lt, suc, lit<}
 use Prim.Native.Nat.{zero}
 use Rattle.std.specs.Prelude.{◌&&◌}
 use Rattle.std.specs.Result.{result_ok}
@@ -10,7 +10,15 @@ use Rattle.std.proofs.lemmas.Str.Parse.{IsNumeralModel, numerals_by_value, tells
 use Rattle.std.proofs.lemmas.Fmt.{decimal-digits_value, decimal_is_IsNumeral, decimal_digit, first_decimal}
 use Rattle.std.proofs.lemmas.Slice.Eq.{bytes_eq-Decides}
 use Rattle.std.proofs.lemmas.Bool.{false_from_ne_true}
-use Rattle.jj_program.specs.Numbers.{is_number, number_of, IsPlain}
+use Rattle.jj_program.specs.Numbers.{is_number}
+
+-- the number of a canonical decimal string
+abbrev pub number_of : List ℕ → Option ℕ
+number_of text = cond (is_number text) (Some (digits_value 10 text)) None
+
+-- no leading `+`, and no leading zero before another digit
+abbrev pub IsPlain : List ℕ → Type 0
+IsPlain text = (slice_index text 0 ≡ 48 → length text < 2) × (slice_index text 0 ≢ 43)
 
 own : IsNumeralModel (AllDigits 10) (digits_value 10)
 own = numerals_by_value (AllDigits 10) tells_digits

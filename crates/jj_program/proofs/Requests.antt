@@ -21,6 +21,15 @@ module _ {Q : Type 0} (IsAnswer : Q → List ℕ → Type 0) where
       e ∙ (λ i. (first i) ++ (others i)) ∙ sym e'
 
   -- the line of request i follows those before it
+  pub AnswersEach-next : {V : Type 0} (view : V → Q) (items : List V) (i : ℕ) (d : V) (output grown answer : List ℕ) → i < length items
+      → AnswersEach IsAnswer (map view (take i items)) output → IsAnswer (view (get_or items i d)) answer → grown ≡ output ++ answer → AnswersEach IsAnswer (map view (take (i + 1) items)) grown
+  AnswersEach-next view items i d output grown answer within so_far is written =
+      let item = get_or items i d in
+      let longer : map view (take (i + 1) items) ≡ map view (take i items) ++ view item ∷ [] = ap (map view) (take_more items i d within) ∙ map-append view (take i items) (item ∷ []) in
+      subst (λ requests. AnswersEach IsAnswer requests grown) (sym longer)
+      (subst (AnswersEach IsAnswer (map view (take i items) ++ view item ∷ [])) (sym written) (AnswersEach-push (map view (take i items)) (view item) output answer so_far is))
+
+  -- the line of request i follows those before it
   pub AnswersEach-more : {V : Type 0} (view : V → Q) (items : List V) (i : ℕ) (item : V) (output grown answer : List ℕ) → i < length items → item ≡ get_or items i item
       → AnswersEach IsAnswer (map view (take i items)) output → IsAnswer (view item) answer → grown ≡ output ++ answer → AnswersEach IsAnswer (map view (take (i + 1) items)) grown
   AnswersEach-more view items i item output grown answer within found so_far is written =

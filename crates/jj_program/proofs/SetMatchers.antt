@@ -1,34 +1,24 @@
--- Replacing each leaf by its matcher implements the combined set.
-use Rattle.std.proofs.Common.{◌≡◌, ◌∙◌, Bool, true, false, List, [], ◌∷◌, ◌++◌, refl, ap, sym, subst, map, reverse, length, ◌||◌, ◌&&◌, if◌then◌else◌}
-use Rattle.std.specs.List.{list_any}
+-- Code with the matcher of each set accepts and visits what the set does.
+use Rattle.std.proofs.Common.{◌≡◌, ◌∙◌, Bool, true, false, List, [], ◌∷◌, ◌++◌, refl, ap, sym, subst, map, reverse, length, get_or, ◌||◌, ◌&&◌, not, if◌then◌else◌, true≢false}
+use Rattle.std.specs.List.{AllZip, list_any}
 use Rattle.std.proofs.lemmas.List.{append_assoc, append-nil}
 use Rattle.std.proofs.lemmas.List.Folds.{list_any-append}
-use Rattle.jj_paths.specs.Paths.{Name, Path}
+use Rattle.jj_paths.specs.Paths.{Name}
 use Rattle.jj_matchers.specs.VisitSpecs.{VisitSpec, all_recursively, specific, nothing}
-use Rattle.jj_matchers.specs.Combined.{intersection_spec}
+use Rattle.jj_matchers.specs.Combined.{union_spec, difference_spec, intersection_spec}
 use Rattle.jj_program.specs.declared.file_set.Combination.{Combination}
 use Rattle.jj_program.specs.declared.file_set.Combination.TheVariants.{Union, Difference, Intersection}
-use Rattle.jj_program.specs.declared.file_set.FileSet.{FileSet}
-use Rattle.jj_program.specs.declared.file_set.SetStep.{SetStep}
-use Rattle.jj_program.specs.declared.file_set.leaf_matcher.LeafMatcher.{LeafMatcher}
-use Rattle.jj_program.specs.declared.file_set.parts.Part.{Part}
-use Rattle.jj_program.specs.declared.file_set.parts.Part.TheVariants.{Leaf, BeforeSecond, AfterBoth}
-use Rattle.jj_program.specs.Leaves.{StandsFor, leaf_names}
-use Rattle.jj_program.specs.Matching.{IsTold, StandsForPart, StandForParts, set_accepts, set_answer, made_by, top_set}
-use Rattle.jj_program.specs.SetTrees.{SetTree, one, both, combined_test, combined_answer, combined_names, names_by, passes, steps_to_all}
-use Rattle.jj_program.specs.SetParts.{parts_of, parts_along, pass_at, pass_over}
-use Rattle.jj_program.specs.SetViews.{are_whole, part_of, sets_by, steps_back}
-use Rattle.jj_program.specs.WalkCommand.{NamedSet}
-use Rattle.jj_program.specs.Walked.{accepted_by, answered_by, named_names}
-use Rattle.jj_program.proofs.SetBuilds.{parts_along-map, parts_of_steps, sets_of_parts}
-use Rattle.jj_program.proofs.SetCounts.{only_item, steps_from}
-use Rattle.jj_program.proofs.SetPasses.{told}
-
--- a matcher implements a set
-pub record StandsForSet (matcher : SetTree LeafMatcher) (set : SetTree NamedSet) : Type 0 where
-  pub accepts : (path : Path) → set_accepts matcher path ≡ accepted_by set path
-  pub answers : (dir : Path) → set_answer matcher dir ≡ answered_by set dir
-  pub names : (test : Name → Bool) → list_any test (names_by leaf_names matcher) ≡ list_any test (names_by named_names set)
+use Rattle.jj_program.specs.declared.file_set.SetLine.{SetLine}
+use Rattle.jj_program.specs.declared.file_set.SetOp.{SetOp}
+use Rattle.jj_program.specs.declared.file_set.SetOp.TheVariants.{Test, ShortCircuit, Combine}
+use Rattle.jj_program.specs.declared.file_set.matcher.FileSet.{FileSet}
+use Rattle.jj_program.specs.declared.file_set.matcher.FileSet.TheVariants.{Nothing}
+use Rattle.jj_program.specs.SetTrees.{SetTree, one, both, stack_of}
+use Rattle.jj_program.specs.SetCode.{code_along, pass_at, pass_over}
+use Rattle.jj_program.specs.SetViews.{is_whole, op_of, ops_of}
+use Rattle.jj_program.specs.Matching.{IsAlike, IsAlikeOp, IsTold, made_by}
+use Rattle.jj_program.specs.Walked.{MatcherSpec, accepts_at, combined_spec, spec_of}
+use Rattle.jj_program.proofs.SetCode.{code_along-map, code_of, code_of_ops, only_item, ops_from, ops_to_all, stack_of_code, told}
 
 -- the visit of an intersection depends on the set of names, not on their order
 same_intersection : (names others : List Name) → ((test : Name → Bool) → list_any test names ≡ list_any test others) → (a b : VisitSpec) →
@@ -42,130 +32,111 @@ same_intersection names others same (specific dirs files) (specific other_dirs o
     let both_files : Name → Bool = λ name. files name && other_files name in
     λ i. if (both_dirs [] || same both_dirs i) || (both_files [] || same both_files i) then specific both_dirs both_files else nothing
 
-same_joined : (k : Combination) (names others : List Name) → ((test : Name → Bool) → list_any test names ≡ list_any test others) → (a b : VisitSpec) →
-    combined_answer k names a b ≡ combined_answer k others a b
-same_joined Union names others same a b = refl
-same_joined Difference names others same a b = refl
-same_joined Intersection names others same a b = same_intersection names others same a b
-
-module _ (m n : SetTree LeafMatcher) (s t : SetTree NamedSet) (first : StandsForSet m s) (second : StandsForSet n t) where
-  all_names : (test : Name → Bool) → list_any test (names_by leaf_names m ++ names_by leaf_names n) ≡ list_any test (names_by named_names s ++ names_by named_names t)
+module _ (m n s t : MatcherSpec) (first : IsAlike m s) (second : IsAlike n t) where
+  all_names : (test : Name → Bool) → list_any test (m.names ++ n.names) ≡ list_any test (s.names ++ t.names)
   all_names test =
-      list_any-append test (names_by leaf_names m) (names_by leaf_names n)
+      list_any-append test m.names n.names
       ∙ (λ i. first.names test i || second.names test i)
-      ∙ sym (list_any-append test (names_by named_names s) (names_by named_names t))
+      ∙ sym (list_any-append test s.names t.names)
 
-  own_names : (k : Combination) (test : Name → Bool) → list_any test (combined_names k (names_by leaf_names m) (names_by leaf_names n)) ≡ list_any test (combined_names k (names_by named_names s) (names_by named_names t))
-  own_names Union test = all_names test
-  own_names Difference test = first.names test
-  own_names Intersection test = all_names test
-
-  stands_joined : (k : Combination) → StandsForSet (both k m n) (both k s t)
-  stands_joined k = record {
-    accepts = λ path i. combined_test k (first.accepts path i) (second.accepts path i);
-    answers = λ dir.
-        same_joined k _ _ all_names (set_answer m dir) (set_answer n dir)
-        ∙ (λ i. combined_answer k (names_by named_names s ++ names_by named_names t) (first.answers dir i) (second.answers dir i));
-    names = own_names k;
+  -- combinations of operands that are alike
+  alike_combined : (k : Combination) → IsAlike (combined_spec k m n) (combined_spec k s t)
+  alike_combined Union = record {
+    accepts = λ path i. first.accepts path i || second.accepts path i;
+    visits = λ dir i. union_spec (first.visits dir i) (second.visits dir i);
+    names = all_names;
+  }
+  alike_combined Difference = record {
+    accepts = λ path i. first.accepts path i && not (second.accepts path i);
+    visits = λ dir i. difference_spec (first.visits dir i) (second.visits dir i);
+    names = first.names;
+  }
+  alike_combined Intersection = record {
+    accepts = λ path i. first.accepts path i && second.accepts path i;
+    visits = λ dir.
+        same_intersection (m.names ++ n.names) (s.names ++ t.names) all_names (m.visits dir) (n.visits dir)
+        ∙ (λ i. intersection_spec (s.names ++ t.names) (first.visits dir i) (second.visits dir i));
+    names = all_names;
   }
 
-stands_alone : (matcher : LeafMatcher) (set : NamedSet) → StandsFor matcher set → StandsForSet (one matcher) (one set)
-stands_alone matcher set stands = record { accepts = stands.accepts; answers = stands.answers; names = stands.names }
-
--- the code of a matcher followed by more code
-pub record Built (set : SetTree NamedSet) (parts : List (Part LeafMatcher)) (rest : List (Part NamedSet)) : Type 0 where
-  pub matcher : SetTree LeafMatcher
-  pub left : List (Part LeafMatcher)
-  pub split : parts ≡ parts_of matcher ++ left
-  pub stands : StandsForSet matcher set
-  pub others : StandForParts left rest
+-- the code of a set followed by more code
+pub record Built (set : SetTree FileSet) (code : List (SetOp FileSet)) (rest : List (SetOp FileSet)) : Type 0 where
+  pub own : SetTree FileSet
+  pub left : List (SetOp FileSet)
+  pub split : code ≡ code_of own ++ left
+  pub alike : IsAlike (spec_of own) (spec_of set)
+  pub others : AllZip IsAlikeOp left rest
 
 -- splitting code into that of a set and the remainder
-abbrev Builds : SetTree NamedSet → Type 0
-Builds set = (parts : List (Part LeafMatcher)) (rest : List (Part NamedSet)) → StandForParts parts (parts_of set ++ rest) → Built set parts rest
+abbrev Builds : SetTree FileSet → Type 0
+Builds set = (code : List (SetOp FileSet)) (rest : List (SetOp FileSet)) → AllZip IsAlikeOp code (code_of set ++ rest) → Built set code rest
 
-module _ (k : Combination) (first second : SetTree NamedSet) (build_first : Builds first) (build_second : Builds second) (own : Combination) (is_own : own ≡ k) (parts : List (Part LeafMatcher)) (rest : List (Part NamedSet)) where
-  build_last : (b : Built second parts (BeforeSecond k ∷ (parts_of first ++ rest))) (left : List (Part LeafMatcher)) → b.left ≡ BeforeSecond k ∷ left → Built first left rest → Built (both k first second) (AfterBoth own ∷ parts) rest
-  build_last b left is a = record {
-    matcher = both k a.matcher b.matcher;
+module _ (k : Combination) (first second : SetTree FileSet) (build_first : Builds first) (build_second : Builds second) (own : Combination) (is_own : IsAlikeOp (Combine own) (Combine k)) (code : List (SetOp FileSet)) (rest : List (SetOp FileSet)) where
+  build_last : (b : Built second code (ShortCircuit k ∷ (code_of first ++ rest))) (op : SetOp FileSet) (left : List (SetOp FileSet)) → b.left ≡ op ∷ left → op ≡ ShortCircuit k → Built first left rest → Built (both k first second) (Combine own ∷ code) rest
+  build_last b op left is is_op a = record {
+    own = both k a.own b.own;
     left = a.left;
     split =
-        ap (λ c. AfterBoth c ∷ parts) is_own
-        ∙ ap (λ l. AfterBoth k ∷ l) (b.split
-        ∙ ap (λ l. parts_of b.matcher ++ l) (is ∙ ap (λ l. BeforeSecond k ∷ l) a.split)
-        ∙ sym (append_assoc (parts_of b.matcher) (BeforeSecond k ∷ parts_of a.matcher) a.left));
-    stands = stands_joined a.matcher b.matcher first second a.stands b.stands k;
+        ap (λ c. c ∷ code) is_own
+        ∙ ap (λ l. Combine k ∷ l) (b.split
+        ∙ ap (λ l. code_of b.own ++ l) (is ∙ ap (λ o. o ∷ left) is_op ∙ ap (λ l. ShortCircuit k ∷ l) a.split)
+        ∙ sym (append_assoc (code_of b.own) (ShortCircuit k ∷ code_of a.own) a.left));
+    alike = alike_combined (spec_of a.own) (spec_of b.own) (spec_of first) (spec_of second) a.alike b.alike k;
     others = a.others;
   }
 
-  build_rest : (b : Built second parts (BeforeSecond k ∷ (parts_of first ++ rest))) (left : List (Part LeafMatcher)) → b.left ≡ left → StandForParts left (BeforeSecond k ∷ (parts_of first ++ rest)) → Built (both k first second) (AfterBoth own ∷ parts) rest
+  build_rest : (b : Built second code (ShortCircuit k ∷ (code_of first ++ rest))) (left : List (SetOp FileSet)) → b.left ≡ left → AllZip IsAlikeOp left (ShortCircuit k ∷ (code_of first ++ rest)) → Built (both k first second) (Combine own ∷ code) rest
   build_rest b [] is h = absurd h
-  build_rest b (Leaf matcher ∷ left) is h = absurd h.0
-  build_rest b (AfterBoth other ∷ left) is h = absurd h.0
-  build_rest b (BeforeSecond other ∷ left) is h = build_last b left (is ∙ ap (λ c. BeforeSecond c ∷ left) h.0) (build_first left rest h.1)
+  build_rest b (Test set ∷ left) is h = build_last b (Test set) left is h.0 (build_first left rest h.1)
+  build_rest b (Combine other ∷ left) is h = build_last b (Combine other) left is h.0 (build_first left rest h.1)
+  build_rest b (ShortCircuit other ∷ left) is h = build_last b (ShortCircuit other) left is h.0 (build_first left rest h.1)
 
-  build_both : StandForParts parts ((parts_of second ++ BeforeSecond k ∷ parts_of first) ++ rest) → Built (both k first second) (AfterBoth own ∷ parts) rest
-  build_both stand =
-      let b = build_second parts (BeforeSecond k ∷ (parts_of first ++ rest)) (subst (StandForParts parts) (append_assoc (parts_of second) (BeforeSecond k ∷ parts_of first) rest) stand) in
+  build_both : AllZip IsAlikeOp code ((code_of second ++ ShortCircuit k ∷ code_of first) ++ rest) → Built (both k first second) (Combine own ∷ code) rest
+  build_both alike =
+      let b = build_second code (ShortCircuit k ∷ (code_of first ++ rest)) (subst (AllZip IsAlikeOp code) (append_assoc (code_of second) (ShortCircuit k ∷ code_of first) rest) alike) in
       build_rest b b.left refl b.others
 
-build : (set : SetTree NamedSet) → Builds set
-build (one set) [] rest stand = absurd stand
-build (one set) (Leaf matcher ∷ parts) rest stand = record { matcher = one matcher; left = parts; split = refl; stands = stands_alone matcher set stand.0; others = stand.1 }
-build (one set) (BeforeSecond own ∷ parts) rest stand = absurd stand.0
-build (one set) (AfterBoth own ∷ parts) rest stand = absurd stand.0
-build (both k first second) [] rest stand = absurd stand
-build (both k first second) (Leaf matcher ∷ parts) rest stand = absurd stand.0
-build (both k first second) (BeforeSecond own ∷ parts) rest stand = absurd stand.0
-build (both k first second) (AfterBoth own ∷ parts) rest stand = build_both k first second (build first) (build second) own stand.0 parts rest stand.1
+-- operations of two kinds are not equal
+abbrev is_test : SetOp FileSet → Bool
+is_test (Test set) = true
+is_test op = false
 
--- code with matchers for leaves is the code of a matcher
-pub record IsMatcherOf (set : SetTree NamedSet) (parts : List (Part LeafMatcher)) : Type 0 where
-  pub matcher : SetTree LeafMatcher
-  pub made : parts ≡ parts_of matcher
-  pub stands : StandsForSet matcher set
+abbrev is_combination : SetOp FileSet → Bool
+is_combination (Combine combination) = true
+is_combination op = false
 
-none_left : (left : List (Part LeafMatcher)) → StandForParts left [] → left ≡ []
+build : (set : SetTree FileSet) → Builds set
+build (one set) [] rest h = absurd h
+build (one set) (Test own ∷ code) rest h = record { own = one own; left = code; split = refl; alike = h.0; others = h.1 }
+build (one set) (ShortCircuit own ∷ code) rest h = absurd (true≢false (sym (ap is_test h.0)))
+build (one set) (Combine own ∷ code) rest h = absurd (true≢false (sym (ap is_test h.0)))
+build (both k first second) [] rest h = absurd h
+build (both k first second) (Test own ∷ code) rest h = absurd (true≢false (sym (ap is_combination h.0)))
+build (both k first second) (ShortCircuit own ∷ code) rest h = absurd (true≢false (sym (ap is_combination h.0)))
+build (both k first second) (Combine own ∷ code) rest h = build_both k first second (build first) (build second) own h.0 code rest h.1
+
+none_left : (left : List (SetOp FileSet)) → AllZip IsAlikeOp left [] → left ≡ []
 none_left [] h = refl
-none_left (part ∷ left) h = absurd h
-
-pub matcher_of : (set : SetTree NamedSet) (parts : List (Part LeafMatcher)) → StandForParts parts (parts_of set) → IsMatcherOf set parts
-matcher_of set parts stand =
-    let built = build set parts [] (subst (StandForParts parts) (sym (append-nil (parts_of set))) stand) in
-    record {
-      matcher = built.matcher;
-      made = built.split ∙ ap (λ l. parts_of built.matcher ++ l) (none_left built.left built.others) ∙ append-nil (parts_of built.matcher);
-      stands = built.stands;
-    }
-
--- one more instruction
-pub stand_more : (own : List (Part LeafMatcher)) (parts : List (Part NamedSet)) (one_own : Part LeafMatcher) (part : Part NamedSet) → StandForParts own parts → StandsForPart one_own part → StandForParts (own ++ one_own ∷ []) (parts ++ part ∷ [])
-stand_more [] [] one_own part h stands = (stands, tt)
-stand_more [] (other ∷ parts) one_own part h stands = absurd h
-stand_more (first ∷ own) [] one_own part h stands = absurd h
-stand_more (first ∷ own) (other ∷ parts) one_own part h stands = (h.0, stand_more own parts one_own part h.1 stands)
+none_left (op ∷ left) h = absurd h
 
 -- the matcher of the only set of a stack
-pub record NewMatcher (sets : List (SetTree NamedSet)) (parts : List (Part LeafMatcher)) : Type 0 where
-  pub told_by : IsTold parts
-  pub stands : (set : SetTree NamedSet) → sets ≡ set ∷ [] → StandsForSet (made_by parts) set
+pub record NewMatcher (sets : List (SetTree FileSet)) (code : List (SetOp FileSet)) : Type 0 where
+  pub told_by : IsTold code
+  pub alike : (set : SetTree FileSet) → sets ≡ set ∷ [] → IsAlike (spec_of (made_by code)) (spec_of set)
 
-abbrev top_or : SetTree NamedSet → List (SetTree NamedSet) → SetTree NamedSet
-top_or other [] = other
-top_or other (set ∷ stack) = set
-
-pub new_matcher : (steps : List (SetStep FileSet)) (own : List (Part FileSet)) (parts : List (Part LeafMatcher)) → length (sets_by steps) ≡ 1 → are_whole steps ≡ true →
-    own ≡ parts_along [] (reverse steps) → StandForParts parts (map part_of own) → NewMatcher (sets_by steps) parts
-new_matcher steps own parts alone whole along stand =
-    let item = only_item (sets_by steps) alone in
+pub new_matcher : (ops code : List (SetOp SetLine)) (own : List (SetOp FileSet)) → length (stack_of (ops_of ops)) ≡ 1 → is_whole (ops_of ops) ≡ true →
+    code ≡ code_along [] (reverse ops) → AllZip IsAlikeOp own (map op_of code) → NewMatcher (stack_of (ops_of ops)) own
+new_matcher ops code own alone whole along h =
+    let item = only_item (stack_of (ops_of ops)) alone in
     let set = item.0 in
-    let back : steps_back steps ≡ steps_to_all (set ∷ []) = steps_from (steps_back steps) whole ∙ ap steps_to_all item.1 in
-    let same : map part_of own ≡ parts_of set = ap (map part_of) along ∙ parts_along-map [] (reverse steps) ∙ ap (parts_along []) back ∙ parts_of_steps set in
-    let built = matcher_of set parts (subst (StandForParts parts) same stand) in
-    let is : made_by parts ≡ built.matcher = ap made_by built.made ∙ ap top_set (sets_of_parts built.matcher) in
+    let back : ops_of ops ≡ ops_to_all (set ∷ []) = ops_from (ops_of ops) whole ∙ ap ops_to_all item.1 in
+    let same : map op_of code ≡ code_of set ++ [] = ap (map op_of) along ∙ code_along-map [] (reverse ops) ∙ ap (code_along []) back ∙ code_of_ops set ∙ sym (append-nil (code_of set)) in
+    let built = build set own [] (subst (AllZip IsAlikeOp own) same h) in
+    let made : own ≡ code_of built.own = built.split ∙ ap (λ l. code_of built.own ++ l) (none_left built.left built.others) ∙ append-nil (code_of built.own) in
+    let is : made_by own ≡ built.own = ap made_by made ∙ ap (λ l. get_or l 0 (one Nothing)) (stack_of_code built.own) in
     record {
-      told_by = λ test. ap (λ l. (pass_over test l (pass_at 0 false)).is_in) built.made ∙ ap (λ p. p.is_in) (told test built.matcher false) ∙ ap (passes test) (sym is);
-      stands = λ other only.
-          let one_set : set ≡ other = ap (top_or set) (sym item.1 ∙ only) in
-          subst (StandsForSet (made_by parts)) one_set (subst (λ matcher. StandsForSet matcher set) (sym is) built.stands);
+      told_by = λ path. ap (λ l. (pass_over (accepts_at path) l (pass_at 0 false)).is_in) made ∙ ap (λ p. p.is_in) (told path built.own false) ∙ ap (λ s. (spec_of s).accepts path) (sym is);
+      alike = λ other only.
+          let one_set : set ≡ other = ap (λ l. get_or l 0 set) (sym item.1 ∙ only) in
+          subst (λ s. IsAlike (spec_of (made_by own)) (spec_of s)) one_set (subst (λ s. IsAlike (spec_of s) (spec_of set)) (sym is) built.alike);
     }

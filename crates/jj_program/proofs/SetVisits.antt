@@ -1,81 +1,101 @@
--- Visits of a directory by the sets of a stack.
-use Rattle.std.proofs.Common.{◌≡◌, ◌∙◌, List, [], ◌∷◌, ◌++◌, refl, ap, sym, subst, reverse}
+-- Visits of a directory by the sets of a stack: they are sound, and combine.
+use Rattle.std.proofs.Common.{◌≡◌, ◌∙◌, List, [], ◌∷◌, ◌++◌, refl, ap, sym, subst, map, reverse, get_or}
 use Rattle.jj_paths.specs.Paths.{Name, Path}
 use Rattle.jj_matchers.specs.VisitSpecs.{VisitSpec, IsSound}
 use Rattle.jj_matchers.specs.MentionedNames.{MentionsOnly}
+use Rattle.jj_matchers.specs.Combined.{intersection_spec}
+use Rattle.jj_matchers.specs.PathLists.{files_spec, prefix_spec}
 use Rattle.jj_matchers.specs.declared.matchers.visits.Visit.{Visit}
 use Rattle.jj_matchers.specs.declared.matchers.visits.Visit.TheVariants.{Nothing}
 use Rattle.jj_matchers.specs.Visits.{visit_spec}
 use Rattle.jj_matchers.proofs.Combined.{union_sound, difference_sound, intersection_sound}
-use Rattle.jj_matchers.proofs.MentionedNames.{chosen_left, chosen_right, union_chooses, difference_chooses, intersection_chooses}
+use Rattle.jj_matchers.proofs.MentionedNames.{chosen_left, chosen_right, union_chooses, difference_chooses, intersection_chooses, files_visit, prefixes_visit}
+use Rattle.jj_matchers.proofs.PatternSound.{patterns_sound, patterns_choose}
 use Rattle.jj_program.specs.declared.file_set.Combination.{Combination}
 use Rattle.jj_program.specs.declared.file_set.Combination.TheVariants.{Union, Difference, Intersection}
-use Rattle.jj_program.specs.declared.file_set.leaf_matcher.LeafMatcher.{LeafMatcher}
-use Rattle.jj_program.specs.Leaves.{leaf_names}
-use Rattle.jj_program.specs.Matching.{IsAnswerOf, AnswerAll, set_accepts, set_opens, top_set}
-use Rattle.jj_program.specs.SetTrees.{SetTree, both, combined_stack, combined_answer, combined_names, names_by}
-use Rattle.jj_program.proofs.SetBuilds.{reverse_more}
+use Rattle.jj_program.specs.declared.file_set.SetOp.{SetOp}
+use Rattle.jj_program.specs.declared.file_set.SetOp.TheVariants.{Combine}
+use Rattle.jj_program.specs.declared.file_set.matcher.FileSet.{FileSet}
+use Rattle.jj_program.specs.declared.file_set.matcher.FileSet.TheVariants.{Everything, Nothing as Nothing', Files, Prefix, Globs}
+use Rattle.jj_program.specs.Matching.{made_by, visits_at}
+use Rattle.jj_program.specs.SetTrees.{SetTree, one, both, combined_stack, stack_of}
+use Rattle.jj_program.specs.Walked.{MatcherSpec, combined_spec, leaf_spec, spec_of}
+use Rattle.jj_program.proofs.SetCode.{reverse_more}
 
-module _ (dir : Path) (s t : SetTree LeafMatcher) (a b : VisitSpec) (one : IsAnswerOf dir s a) (other : IsAnswerOf dir t b) where
-  abbrev ours : List Name
-  ours = names_by leaf_names s
+-- the visit of a directory is sound, and lists only the names
+abbrev pub Visited : Path → MatcherSpec → Type 0
+Visited dir spec = IsSound spec.accepts spec.opens dir (spec.visits dir) × MentionsOnly spec.names (spec.visits dir)
 
-  abbrev theirs : List Name
-  theirs = names_by leaf_names t
+module _ (dir : Path) where
+  leaf_visited : (set : FileSet) → Visited dir (leaf_spec set)
+  leaf_visited Everything = ((λ name rest. (refl, refl)), tt)
+  leaf_visited Nothing' = ((λ name rest. refl), tt)
+  leaf_visited (Files paths) = let (is, sound, only) = files_visit paths paths dir (files_spec paths dir) refl refl in (sound, only)
+  leaf_visited (Prefix paths) = let (is, sound, only) = prefixes_visit paths paths dir (prefix_spec paths dir) refl refl in (sound, only)
+  leaf_visited (Globs patterns) = (patterns_sound patterns dir, patterns_choose patterns dir)
 
-  from_first : MentionsOnly (ours ++ theirs) a
-  from_first = chosen_left ours theirs a one.chosen
+  combined_visited : (k : Combination) (a b : MatcherSpec) → Visited dir a → Visited dir b → Visited dir (combined_spec k a b)
+  combined_visited k a b (sound_a, only_a) (sound_b, only_b) = by k
+    where
+      from_first : MentionsOnly (a.names ++ b.names) (a.visits dir)
+      from_first = chosen_left a.names b.names (a.visits dir) only_a
 
-  from_second : MentionsOnly (ours ++ theirs) b
-  from_second = chosen_right ours theirs b other.chosen
+      from_second : MentionsOnly (a.names ++ b.names) (b.visits dir)
+      from_second = chosen_right a.names b.names (b.visits dir) only_b
 
-  sound_joined : (k : Combination) → IsSound (set_accepts (both k s t)) (set_opens (both k s t)) dir (combined_answer k (ours ++ theirs) a b)
-  sound_joined Union = union_sound (set_accepts s) (set_accepts t) (set_opens s) (set_opens t) dir a b one.sound other.sound
-  sound_joined Difference = difference_sound (set_accepts s) (set_accepts t) (set_opens s) (set_opens t) dir a b one.sound other.sound
-  sound_joined Intersection = intersection_sound (set_accepts s) (set_accepts t) (set_opens s) (set_opens t) dir (ours ++ theirs) a b one.sound other.sound from_first from_second
+      by : (k : Combination) → Visited dir (combined_spec k a b)
+      by Union = (union_sound a.accepts b.accepts a.opens b.opens dir (a.visits dir) (b.visits dir) sound_a sound_b, union_chooses (a.names ++ b.names) (a.visits dir) (b.visits dir) from_first from_second)
+      by Difference = (difference_sound a.accepts b.accepts a.opens b.opens dir (a.visits dir) (b.visits dir) sound_a sound_b, difference_chooses a.names (a.visits dir) (b.visits dir) only_a)
+      by Intersection = (
+        intersection_sound a.accepts b.accepts a.opens b.opens dir (a.names ++ b.names) (a.visits dir) (b.visits dir) sound_a sound_b from_first from_second,
+        intersection_chooses (a.names ++ b.names) (a.visits dir) (b.visits dir) from_first from_second,
+      )
 
-  chosen_joined : (k : Combination) → MentionsOnly (combined_names k ours theirs) (combined_answer k (ours ++ theirs) a b)
-  chosen_joined Union = union_chooses (ours ++ theirs) a b from_first from_second
-  chosen_joined Difference = difference_chooses ours a b one.chosen
-  chosen_joined Intersection = intersection_chooses (ours ++ theirs) a b from_first from_second
+  pub visited : (set : SetTree FileSet) → Visited dir (spec_of set)
+  visited (one set) = leaf_visited set
+  visited (both k first second) = combined_visited k (spec_of first) (spec_of second) (visited first) (visited second)
 
-  -- the visit of a combination is that of its operands combined
-  pub joined_is_answer : (k : Combination) (c : VisitSpec) → ((names : List Name) → MentionsOnly names a → MentionsOnly names b → c ≡ combined_answer k names a b) → IsAnswerOf dir (both k s t) c
-  joined_is_answer k c combined =
-      let is : c ≡ combined_answer k (ours ++ theirs) a b = combined (ours ++ theirs) from_first from_second in
-      record {
-        same = is ∙ (λ i. combined_answer k (ours ++ theirs) (one.same i) (other.same i));
-        sound = subst (IsSound (set_accepts (both k s t)) (set_opens (both k s t)) dir) (sym is) (sound_joined k);
-        chosen = subst (MentionsOnly (combined_names k ours theirs)) (sym is) (chosen_joined k);
-      }
+  -- the visit of an intersection, from those of its operands
+  pub met : (a b : SetTree FileSet) (first second visit : VisitSpec) → first ≡ (spec_of a).visits dir → second ≡ (spec_of b).visits dir
+      → ((names : List Name) → MentionsOnly names first → MentionsOnly names second → visit ≡ intersection_spec names first second) → visit ≡ (spec_of (both Intersection a b)).visits dir
+  met a b first second visit is_first is_second combined =
+      let ours = (spec_of a).names in
+      let theirs = (spec_of b).names in
+      combined (ours ++ theirs) (subst (MentionsOnly (ours ++ theirs)) (sym is_first) (chosen_left ours theirs ((spec_of a).visits dir) (visited a).1))
+      (subst (MentionsOnly (ours ++ theirs)) (sym is_second) (chosen_right ours theirs ((spec_of b).visits dir) (visited b).1))
+      ∙ (λ i. intersection_spec (ours ++ theirs) (is_first i) (is_second i))
 
-module _ (dir : Path) (k : Combination) where
-  join_two : (stack : List (SetTree LeafMatcher)) (second first visit : Visit) (visits : List Visit) →
-      ((names : List Name) → MentionsOnly names (visit_spec first) → MentionsOnly names (visit_spec second) → visit_spec visit ≡ combined_answer k names (visit_spec first) (visit_spec second)) →
-      AnswerAll dir stack (second ∷ first ∷ visits) → AnswerAll dir (combined_stack k stack) (visit ∷ visits)
-  join_two [] second first visit visits combined h = absurd h
-  join_two (t ∷ []) second first visit visits combined h = absurd h.1
-  join_two (t ∷ s ∷ stack) second first visit visits combined h = (joined_is_answer dir s t (visit_spec first) (visit_spec second) h.1.0 h.0 k (visit_spec visit) combined, h.1.1)
+abbrev at : Path → List (SetTree FileSet) → List VisitSpec
+at dir sets = map (λ set. (spec_of set).visits dir) sets
 
-  -- the top two are combined
-  pub combine_two : (stack : List (SetTree LeafMatcher)) (second first visit : Visit) (old mid rest new : List Visit) → old ≡ mid ++ second ∷ [] → mid ≡ rest ++ first ∷ [] → new ≡ rest ++ visit ∷ [] →
-      ((names : List Name) → MentionsOnly names (visit_spec first) → MentionsOnly names (visit_spec second) → visit_spec visit ≡ combined_answer k names (visit_spec first) (visit_spec second)) →
-      AnswerAll dir stack (reverse old) → AnswerAll dir (combined_stack k stack) (reverse new)
-  combine_two stack second first visit old mid rest new e f g combined h =
-      let before : reverse old ≡ second ∷ first ∷ reverse rest = ap reverse e ∙ reverse_more mid second ∙ ap (λ l. second ∷ l) (ap reverse f ∙ reverse_more rest first) in
-      subst (AnswerAll dir (combined_stack k stack)) (sym (ap reverse g ∙ reverse_more rest visit)) (join_two stack second first visit (reverse rest) combined (subst (AnswerAll dir stack) before h))
+-- the top two are combined
+pub combine_two : (dir : Path) (k : Combination) (earlier : List (SetOp FileSet)) (second first visit : Visit) (old mid rest new : List Visit) → old ≡ mid ++ second ∷ [] → mid ≡ rest ++ first ∷ [] → new ≡ rest ++ visit ∷ [] →
+    ((dir : Path) (a b : SetTree FileSet) → visit_spec first ≡ (spec_of a).visits dir → visit_spec second ≡ (spec_of b).visits dir → visit_spec visit ≡ (spec_of (both k a b)).visits dir) →
+    map visit_spec (reverse old) ≡ visits_at dir earlier → map visit_spec (reverse new) ≡ visits_at dir (Combine k ∷ earlier)
+combine_two dir k earlier second first visit old mid rest new e f g combined h =
+    let before : reverse old ≡ second ∷ first ∷ reverse rest = ap reverse e ∙ reverse_more mid second ∙ ap (λ l. second ∷ l) (ap reverse f ∙ reverse_more rest first) in
+    ap (map visit_spec) (ap reverse g ∙ reverse_more rest visit) ∙ two (stack_of earlier) (sym (ap (map visit_spec) before) ∙ h)
+  where
+    two : (stack : List (SetTree FileSet)) → visit_spec second ∷ visit_spec first ∷ map visit_spec (reverse rest) ≡ at dir stack → visit_spec visit ∷ map visit_spec (reverse rest) ≡ at dir (combined_stack k stack)
+    two [] e = cc
+    two (b ∷ []) e = cc
+    two (b ∷ a ∷ stack) e =
+        let is_first : visit_spec first ≡ (spec_of a).visits dir = cc in
+        let is_second : visit_spec second ≡ (spec_of b).visits dir = cc in
+        let others : map visit_spec (reverse rest) ≡ at dir stack = cc in
+        (λ i. combined dir a b is_first is_second i ∷ others i)
 
 -- the top visit is that of the top set; an empty stack visits nothing
-pub answer_top : (dir : Path) (sets : List (SetTree LeafMatcher)) (visits rest : List Visit) (visit : Visit) → visits ≡ rest ++ visit ∷ [] → AnswerAll dir sets (reverse visits) → IsAnswerOf dir (top_set sets) (visit_spec visit)
-answer_top dir sets visits rest visit is answers = top sets (subst (AnswerAll dir sets) (ap reverse is ∙ reverse_more rest visit) answers)
+pub visit_top : (dir : Path) (code : List (SetOp FileSet)) (visits rest : List Visit) (visit : Visit) → visits ≡ rest ++ visit ∷ [] → map visit_spec (reverse visits) ≡ visits_at dir code → visit_spec visit ≡ (spec_of (made_by code)).visits dir
+visit_top dir code visits rest visit is h = top (stack_of code) (sym (ap (map visit_spec) (ap reverse is ∙ reverse_more rest visit)) ∙ h)
   where
-    top : (sets : List (SetTree LeafMatcher)) → AnswerAll dir sets (visit ∷ reverse rest) → IsAnswerOf dir (top_set sets) (visit_spec visit)
-    top [] h = absurd h
-    top (set ∷ others) h = h.0
+    top : (stack : List (SetTree FileSet)) → visit_spec visit ∷ map visit_spec (reverse rest) ≡ at dir stack → visit_spec visit ≡ (spec_of (get_or stack 0 (one Nothing'))).visits dir
+    top [] e = cc
+    top (set ∷ others) e = cc
 
-pub answer_none : (dir : Path) (sets : List (SetTree LeafMatcher)) (visits : List Visit) → visits ≡ [] → AnswerAll dir sets (reverse visits) → IsAnswerOf dir (top_set sets) (visit_spec Nothing)
-answer_none dir sets visits is answers = top sets (subst (λ l. AnswerAll dir sets (reverse l)) is answers)
+pub visit_none : (dir : Path) (code : List (SetOp FileSet)) (visits : List Visit) → visits ≡ [] → map visit_spec (reverse visits) ≡ visits_at dir code → visit_spec Nothing ≡ (spec_of (made_by code)).visits dir
+visit_none dir code visits is h = top (stack_of code) (sym (ap (λ l. map visit_spec (reverse l)) is) ∙ h)
   where
-    top : (sets : List (SetTree LeafMatcher)) → AnswerAll dir sets [] → IsAnswerOf dir (top_set sets) (visit_spec Nothing)
-    top [] h = record { same = refl; sound = λ name rest. refl; chosen = tt }
-    top (set ∷ others) h = absurd h
+    top : (stack : List (SetTree FileSet)) → [] ≡ at dir stack → visit_spec Nothing ≡ (spec_of (get_or stack 0 (one Nothing'))).visits dir
+    top [] e = refl
+    top (set ∷ others) e = cc

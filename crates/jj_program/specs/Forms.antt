@@ -1,7 +1,7 @@
 -- Tables of line forms, and the values of the fields of a line by such a table.
 -- Cited by contracts of public items through GraphCommand, HashCommand, LineFaults, LineForms,
 -- MergeCommand, WalkCommand.
-use Rattle.std.specs.Prelude.{ℕ, ◌==◌, ◌%◌, Bool, true, not, List, [], ◌∷◌, cond, codes, length, map, Option, Some, None, Result, Ok, Err}
+use Rattle.std.specs.Prelude.{ℕ, ◌==◌, ◌%◌, Bool, true, not, List, [], ◌∷◌, cond, codes, length, map, Option, Some, None, ok_or, Result, Ok, Err}
 use Rattle.std.specs.Borrow.{Bor}
 use Rattle.std.specs.List.{after_first, before_first, count_by, list_all}
 use Rattle.std.specs.Str.{bytes_eq}
@@ -69,17 +69,12 @@ form_named [] word = None
 form_named (form ∷ forms) word =
     cond (bytes_eq form.0 word) (Some (form.1, form.2)) (form_named forms word)
 
-abbrev pub admitted : {A : Type 0} → Option (Shape × A) → List (List ℕ)
-    → Result (A × Shape × List (List ℕ)) LineFault
-admitted None fields = Err UnknownCommand
-admitted (Some form) fields =
-    cond (admits form.0 fields) (Ok (form.1, form.0, fields)) (Err BadFieldCount)
-
 -- the action and the shape of a line, and the fields after its word
 abbrev pub form_line : {A : Type 0} → List (Form A) → List (List ℕ)
     → Result (A × Shape × List (List ℕ)) LineFault
 form_line forms [] = Err UnknownCommand
-form_line forms (word ∷ fields) = admitted (form_named forms word) fields
+form_line forms (word ∷ fields) = result_and_then (ok_or (form_named forms word) UnknownCommand)
+    (λ form. cond (admits form.0 fields) (Ok (form.1, form.0, fields)) (Err BadFieldCount))
 
 -- 3. Values of fields.
 
@@ -97,15 +92,10 @@ abbrev pub values_at : {V : Type 0} → Kind V → List (List ℕ) → Result (L
 values_at kind texts =
     cond (list_all kind.is_one texts) (Ok (map kind.value_of texts)) (Err kind.otherwise)
 
--- the values of two lists; a fault of the first takes precedence
-abbrev pub both : {A V W : Type 0} → A → Result V LineFault → Result W LineFault
-    → Result (A × V × W) LineFault
-both action (Ok xs) (Ok ys) = Ok (action, xs, ys)
-both action (Ok xs) (Err kind) = Err kind
-both action (Err kind) ys = Err kind
-
--- the action of a line and the values of its two lists
+-- the action of a line and the values of its two lists; a fault of the first takes precedence
 abbrev pub line_of : {A V W : Type 0} → Kind V → Kind W → List (Form A) → List (List ℕ)
     → Result (A × List V × List W) LineFault
-line_of first second forms fields = result_and_then (form_line forms fields) (λ line. both line.0
-    (values_at first (first_fields line.1 line.2)) (values_at second (second_fields line.1 line.2)))
+line_of first second forms fields = result_and_then (form_line forms fields)
+    (λ line. result_and_then (values_at first (first_fields line.1 line.2))
+    (λ xs. result_and_then (values_at second (second_fields line.1 line.2))
+    (λ ys. Ok (line.0, xs, ys))))

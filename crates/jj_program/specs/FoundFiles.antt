@@ -5,13 +5,15 @@ use Rattle.std.specs.List.Sorted.{IsStrictlySortedBy}
 use Rattle.jj_paths.specs.Paths.{Path, path_cmp}
 use Rattle.jj_matchers.specs.Patterns.{IsAccepted}
 use Rattle.jj_program.specs.declared.file_set.Combination.TheVariants.{Union, Difference, Intersection}
+use Rattle.jj_program.specs.declared.file_set.matcher.FileSet.{FileSet}
+use Rattle.jj_program.specs.declared.file_set.matcher.FileSet.TheVariants.{Everything, Nothing, Files, Prefix, Globs}
 use Rattle.jj_program.specs.SetTrees.{SetTree, one, both}
 use Rattle.jj_program.specs.Walked.{GivesWalk, path_lines}
-use Rattle.jj_program.specs.WalkCommand.{NamedSet, Everything, Nothing, Files, Prefix, Globs, WalkRequest, walk_request}
+use Rattle.jj_program.specs.WalkCommand.{WalkRequest, walk_request}
 
 -- the path is in a leaf: all paths, none, those of a list, those at or below one of a list, or
 -- those whose suffix below a pattern's directory its glob matches
-abbrev pub IsNamed : NamedSet → Path → Type 0
+abbrev pub IsNamed : FileSet → Path → Type 0
 IsNamed Everything path = Unit {0}
 IsNamed Nothing path = ⊥
 IsNamed (Files paths) path = Contains paths path
@@ -19,7 +21,7 @@ IsNamed (Prefix paths) path = (base rest : Path) × Contains paths base × (path
 IsNamed (Globs patterns) path = IsAccepted patterns path
 
 -- the path is in the combined set
-abbrev pub IsIn : SetTree NamedSet → Path → Type 0
+abbrev pub IsIn : SetTree FileSet → Path → Type 0
 IsIn (one set) path = IsNamed set path
 IsIn (both Union first second) path = IsIn first path ⊎ IsIn second path
 IsIn (both Difference first second) path = IsIn first path × (IsIn second path → ⊥)

@@ -1,7 +1,7 @@
 -- The command `hash`: the digest of each line's bytes, which are given in hex or are the content of
 -- strings.
 -- Cited by contracts of public items through LineFaults, Program.
-use Rattle.std.specs.Prelude.{◌≡◌, ℕ, ◌+◌, ◌*◌, List, [], ◌∷◌, ◌++◌, flat_map, Option, None, Some, Result, Ok, Err}
+use Rattle.std.specs.Prelude.{◌≡◌, ℕ, ◌+◌, ◌*◌, List, [], ◌∷◌, ◌++◌, flat_map, Option, None, Some, ok_or, option_map, Result, Ok}
 use Rattle.std.specs.List.{concat}
 use Rattle.jj_content.specs.Blake2b.{blake2b}
 use Rattle.jj_content.specs.Content.{string_content, list_content}
@@ -29,27 +29,17 @@ bytes_of_hex (alone ∷ []) = None
 bytes_of_hex (high ∷ low ∷ text) =
     with_byte (digit_value hex_digits high) (digit_value hex_digits low) (bytes_of_hex text)
 
--- the decoded bytes, or the fault
-abbrev pub or_bad_hex : Option (List ℕ) → Result (List ℕ) LineFault
-or_bad_hex (Some bytes) = Ok bytes
-or_bad_hex None = Err BadHex
-
--- the content that a line with these fields describes: the bytes of a hex string, or the content of
--- a string, of a list of strings or of a merge of strings
+-- the digest of what a line with these fields describes: the bytes of a hex string, or the content
+-- of a string, of a list of strings or of a merge of strings
 abbrev pub hashed : HashInput → List (List ℕ) → Result (List ℕ) LineFault
-hashed Raw fields = or_bad_hex (bytes_of_hex (concat fields))
-hashed Text fields = Ok (flat_map string_content fields)
-hashed List' fields = Ok (list_content string_content fields)
-hashed Merge fields = Ok (list_content string_content fields)
+hashed Raw fields = ok_or (option_map blake2b (bytes_of_hex (concat fields))) BadHex
+hashed Text fields = Ok (blake2b (flat_map string_content fields))
+hashed List' fields = Ok (blake2b (list_content string_content fields))
+hashed Merge fields = Ok (blake2b (list_content string_content fields))
 
 abbrev pub hash_line : List (List ℕ) → Result (List ℕ) LineFault
 hash_line fields =
     result_and_then (form_line (table HASH_FORMS) fields) (λ line. hashed line.0 line.2)
-
--- the digest of the bytes
-abbrev pub digest_of : Result (List ℕ) LineFault → Result (List ℕ) LineFault
-digest_of (Ok bytes) = Ok (blake2b bytes)
-digest_of (Err kind) = Err kind
 
 -- a line of 128 hex digits
 abbrev pub digest_line : List ℕ → List ℕ
@@ -57,7 +47,7 @@ digest_line digest = hex digest ++ 10 ∷ []
 
 -- appends the digest of a line to the output
 abbrev pub hash_step : List ℕ → List (List ℕ) → Result (List ℕ) LineFault
-hash_step output fields = result_and_then (digest_of (hash_line fields))
+hash_step output fields = result_and_then (hash_line fields)
     (λ digest. Ok (output ++ digest_line digest))
 
 -- the digests of all lines, or the first fault

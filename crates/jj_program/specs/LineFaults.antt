@@ -51,21 +51,11 @@ abbrev pub lists_node : ℕ → Result (GraphForm × List ℕ × List ℕ) LineF
 lists_node id (Ok (Node, own ∷ neighbors, none)) = own == id
 lists_node id other = false
 
--- an action combines two sets, and fewer are left
-abbrev pub is_short : WalkForm → ℕ → Bool
-is_short (Combine combination) left = nat_lt left 2
-is_short form left = false
-
 -- an action lists the node with the first id, and so does an earlier line
 abbrev pub is_repeated : GraphForm → (earlier : List (List ℕ)) → List ℕ → Bool
 is_repeated Node earlier (id ∷ neighbors) =
     list_any (λ line. lists_node id (graph_line (fields_of line))) earlier
 is_repeated form earlier ids = false
-
--- an action decodes the field from hex, and the field is not hex
-abbrev pub is_bad_hex : HashInput → List (List ℕ) → Bool
-is_bad_hex Raw fields = not (is_some (bytes_of_hex (concat fields)))
-is_bad_hex input fields = false
 
 -- a line of a known word, with these fields after it, has a fault of this kind of its command
 abbrev pub walk_fails : (earlier fields : List (List ℕ)) → Shape × WalkForm → LineFault → Bool
@@ -73,7 +63,7 @@ walk_fails earlier fields form BadPath =
     not (list_all is_path_string (first_fields form.0 fields))
 walk_fails earlier fields form BadGlob =
     not (list_all is_glob_text (second_fields form.0 fields))
-walk_fails earlier fields form EmptyStack = is_short form.1 (sets_left earlier)
+walk_fails earlier fields (shape, Combine combination) EmptyStack = nat_lt (sets_left earlier) 2
 walk_fails earlier fields form kind = false
 
 abbrev pub graph_fails : (earlier fields : List (List ℕ)) → Shape × GraphForm → LineFault → Bool
@@ -85,7 +75,7 @@ graph_fails earlier fields form RepeatedNode =
 graph_fails earlier fields form kind = false
 
 abbrev pub hash_fails : (fields : List (List ℕ)) → Shape × HashInput → LineFault → Bool
-hash_fails fields form BadHex = is_bad_hex form.1 fields
+hash_fails fields (shape, Raw) BadHex = not (is_some (bytes_of_hex (concat fields)))
 hash_fails fields form kind = false
 
 -- a line has a fault of this kind, by the row of its word: no row, a wrong number of fields, or one

@@ -3,6 +3,7 @@
 use Rattle.std.specs.Prelude.{◌≡◌, [], ◌∷◌, codes}
 use Rattle.jj_merges.specs.declared.merge.SameChange.TheVariants.{Keep, Accept}
 use Rattle.jj_program.specs.declared.file_set.Combination.TheVariants.{Union, Difference, Intersection}
+use Rattle.jj_program.specs.declared.file_set.SetWord.TheVariants.{Everything, Nothing, Files, Prefix, Globs, PrefixGlobs}
 use Rattle.jj_program.specs.declared.forms.Shape.TheVariants.{Empty, One, NonEmpty, Any, Odd, Pairs, Dashed}
 use Rattle.jj_program.specs.declared.graph_command.GraphForm.TheVariants.{Node, Order, Heads, Common}
 use Rattle.jj_program.specs.declared.graph_command.TheConstants.{GRAPH_FORMS}
@@ -10,7 +11,6 @@ use Rattle.jj_program.specs.declared.hash_command.HashInput.TheVariants.{Raw, Te
 use Rattle.jj_program.specs.declared.hash_command.TheConstants.{HASH_FORMS}
 use Rattle.jj_program.specs.declared.merge_command.Question.TheVariants.{Simplify, Resolve}
 use Rattle.jj_program.specs.declared.merge_command.TheConstants.{MERGE_FORMS}
-use Rattle.jj_program.specs.declared.walk_command.SetWord.TheVariants.{Everything, Nothing, Files, Prefix, Globs, PrefixGlobs}
 use Rattle.jj_program.specs.declared.walk_command.WalkForm.TheVariants.{Mark, Push, Combine}
 use Rattle.jj_program.specs.declared.walk_command.TheConstants.{WALK_FORMS}
 use Rattle.jj_program.specs.Forms.{table}

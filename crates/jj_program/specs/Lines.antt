@@ -3,6 +3,7 @@
 -- MergeCommand, WalkCommand, Walked.
 use Rattle.std.specs.Prelude.{ℕ, ◌≡◌, ◌==◌, ◌+◌, List, [], ◌∷◌, ◌++◌, flat_map, Result, Ok, Err}
 use Rattle.std.specs.List.{slice_split}
+use Rattle.std.specs.Result.{result_map_both}
 use Rattle.jj_program.specs.declared.fault.LineFault.{LineFault}
 use Rattle.jj_program.specs.declared.fault.Fault.{Fault}
 use Rattle.jj_program.specs.declared.fault.Fault.TheVariants.{ReadInput, Memory, WriteOutput, Line}
@@ -20,16 +21,12 @@ fields_of line = slice_split (λ b. b == 9) line
 abbrev pub line_text : List ℕ → List (List ℕ) → List ℕ
 line_text name fields = name ++ flat_map (λ field. 9 ∷ field) fields ++ 10 ∷ []
 
--- adds the line's number to its fault
-abbrev pub at_line : {S : Type 0} → ℕ → Result S LineFault → Result S Fault
-at_line number (Ok state) = Ok state
-at_line number (Err kind) = Err (Line number kind)
-
--- the state after a line: an empty line is skipped
+-- the state after a line, or its fault with its number: an empty line is skipped
 abbrev pub after_line : {S : Type 0} → (S → List (List ℕ) → Result S LineFault) → ℕ → S → List ℕ
     → Result S Fault
 after_line step number state [] = Ok state
-after_line step number state (b ∷ bs) = at_line number (step state (fields_of (b ∷ bs)))
+after_line step number state (b ∷ bs) =
+    result_map_both (λ next. next) (Line number) (step state (fields_of (b ∷ bs)))
 
 -- std's `and_then`
 abbrev pub result_and_then : {A B E : Type 0} → Result A E → (A → Result B E) → Result B E

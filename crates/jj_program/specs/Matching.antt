@@ -1,74 +1,38 @@
--- Combined sets with a matcher at each leaf.
+-- Code with the matcher of each set.
 -- Machinery of private functions and fields.
-use Rattle.std.specs.Prelude.{◌≡◌, Bool, false, List, [], ◌∷◌}
+use Rattle.std.specs.Prelude.{◌≡◌, Bool, false, List, get_or, map}
+use Rattle.std.specs.List.{list_any}
 use Rattle.jj_paths.specs.Paths.{Name, Path}
-use Rattle.jj_matchers.specs.VisitSpecs.{VisitSpec, IsSound}
-use Rattle.jj_matchers.specs.MentionedNames.{MentionsOnly}
-use Rattle.jj_matchers.specs.declared.matchers.visits.Visit.{Visit}
-use Rattle.jj_matchers.specs.Visits.{visit_spec}
-use Rattle.jj_program.specs.declared.file_set.leaf_matcher.LeafMatcher.{LeafMatcher}
-use Rattle.jj_program.specs.declared.file_set.leaf_matcher.LeafMatcher.TheVariants.{Nothing}
-use Rattle.jj_program.specs.declared.file_set.parts.Part.{Part}
-use Rattle.jj_program.specs.declared.file_set.parts.Part.TheVariants.{Leaf, BeforeSecond, AfterBoth}
-use Rattle.jj_program.specs.Leaves.{StandsFor, leaf_accepts, leaf_opens, leaf_answer, leaf_names}
-use Rattle.jj_program.specs.SetTrees.{SetTree, one, passes, is_open, names_by, answer_by}
-use Rattle.jj_program.specs.SetParts.{pass_at, pass_over, sets_of}
-use Rattle.jj_program.specs.WalkCommand.{NamedSet}
+use Rattle.jj_matchers.specs.VisitSpecs.{VisitSpec}
+use Rattle.jj_program.specs.declared.file_set.SetOp.{SetOp}
+use Rattle.jj_program.specs.declared.file_set.SetOp.TheVariants.{Test}
+use Rattle.jj_program.specs.declared.file_set.matcher.FileSet.{FileSet}
+use Rattle.jj_program.specs.declared.file_set.matcher.FileSet.TheVariants.{Nothing}
+use Rattle.jj_program.specs.SetTrees.{SetTree, one, stack_of}
+use Rattle.jj_program.specs.SetCode.{pass_at, pass_over}
+use Rattle.jj_program.specs.Walked.{MatcherSpec, accepts_at, leaf_spec, spec_of}
 
--- the top of a stack, and the set that code builds
-abbrev pub top_set : List (SetTree LeafMatcher) → SetTree LeafMatcher
-top_set [] = one Nothing
-top_set (set ∷ stack) = set
+-- the set that code leaves on top of the stack
+abbrev pub made_by : List (SetOp FileSet) → SetTree FileSet
+made_by code = get_or (stack_of code) 0 (one Nothing)
 
-abbrev pub made_by : List (Part LeafMatcher) → SetTree LeafMatcher
-made_by parts = top_set (sets_of parts)
+-- one pass over the code decides membership
+abbrev pub IsTold : List (SetOp FileSet) → Type 0
+IsTold code = (path : Path)
+    → (pass_over (accepts_at path) code (pass_at 0 false)).is_in
+    ≡ (spec_of (made_by code)).accepts path
 
--- membership, directories that may contain members, visits, and names that visits may list
-abbrev pub set_accepts : SetTree LeafMatcher → Path → Bool
-set_accepts set path = passes (leaf_accepts path) set
+-- the visits of a directory by the sets on the stack
+abbrev pub visits_at : Path → List (SetOp FileSet) → List VisitSpec
+visits_at dir code = map (λ set. (spec_of set).visits dir) (stack_of code)
 
-abbrev pub set_opens : SetTree LeafMatcher → Path → Bool
-set_opens set dir = is_open (leaf_opens dir) set
+-- two matchers accept the same paths, visit alike and mention the same names
+pub record IsAlike (own set : MatcherSpec) : Type 0 where
+  pub accepts : (path : Path) → own.accepts path ≡ set.accepts path
+  pub visits : (dir : Path) → own.visits dir ≡ set.visits dir
+  pub names : (test : Name → Bool) → list_any test own.names ≡ list_any test set.names
 
-abbrev pub set_answer : SetTree LeafMatcher → Path → VisitSpec
-set_answer set dir = answer_by leaf_names (leaf_answer dir) set
-
-abbrev pub set_names : SetTree LeafMatcher → List Name
-set_names set = names_by leaf_names set
-
--- one pass over the code decides membership for every test of the leaves
-abbrev pub IsTold : List (Part LeafMatcher) → Type 0
-IsTold parts = (test : LeafMatcher → Bool)
-    → (pass_over test parts (pass_at 0 false)).is_in ≡ passes test (made_by parts)
-
--- a visit of a directory is the set's, and is sound
-pub record IsAnswerOf (dir : Path) (set : SetTree LeafMatcher) (answer : VisitSpec) : Type 0 where
-  pub same : answer ≡ set_answer set dir
-  pub sound : IsSound (set_accepts set) (set_opens set) dir answer
-  pub chosen : MentionsOnly (set_names set) answer
-
--- there is such a visit for each set of a stack
-abbrev pub AnswerAll : Path → List (SetTree LeafMatcher) → List Visit → Type 0
-AnswerAll dir [] [] = Unit {0}
-AnswerAll dir [] (visit ∷ visits) = ⊥
-AnswerAll dir (set ∷ sets) [] = ⊥
-AnswerAll dir (set ∷ sets) (visit ∷ visits) = IsAnswerOf dir set (visit_spec visit)
-    × AnswerAll dir sets visits
-
--- equal instructions up to a matcher for the leaf
-abbrev pub StandsForPart : Part LeafMatcher → Part NamedSet → Type 0
-StandsForPart (Leaf matcher) (Leaf set) = StandsFor matcher set
-StandsForPart (Leaf matcher) (BeforeSecond combination) = ⊥
-StandsForPart (Leaf matcher) (AfterBoth combination) = ⊥
-StandsForPart (BeforeSecond own) (Leaf set) = ⊥
-StandsForPart (BeforeSecond own) (BeforeSecond combination) = own ≡ combination
-StandsForPart (BeforeSecond own) (AfterBoth combination) = ⊥
-StandsForPart (AfterBoth own) (Leaf set) = ⊥
-StandsForPart (AfterBoth own) (BeforeSecond combination) = ⊥
-StandsForPart (AfterBoth own) (AfterBoth combination) = own ≡ combination
-
-abbrev pub StandForParts : List (Part LeafMatcher) → List (Part NamedSet) → Type 0
-StandForParts [] [] = Unit {0}
-StandForParts [] (part ∷ parts) = ⊥
-StandForParts (own ∷ others) [] = ⊥
-StandForParts (own ∷ others) (part ∷ parts) = StandsForPart own part × StandForParts others parts
+-- equal operations up to a matcher of the set
+abbrev pub IsAlikeOp : SetOp FileSet → SetOp FileSet → Type 0
+IsAlikeOp (Test own) (Test set) = IsAlike (leaf_spec own) (leaf_spec set)
+IsAlikeOp own op = own ≡ op

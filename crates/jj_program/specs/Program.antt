@@ -72,11 +72,6 @@ abbrev pub WritesOutput : Command → (before after : Streams) → Type 0
 WritesOutput command before after = (output : List ℕ)
     × Answers command before after (Ok output) × Appends before.written after.written output
 
--- the source was read to its end, the input has this fault, and nothing was written
-abbrev pub GivesFault : Command → (before after : Streams) → Fault → Type 0
-GivesFault command before after fault =
-    Answers command before after (Err fault) × Keeps before.written after.written
-
 -- the streams after a failed run: nothing was written, unless a write failed, which leaves a prefix
 -- of the output
 abbrev pub FailsBy : Command → (before after : Streams) → Fault → Type 0
@@ -84,7 +79,8 @@ FailsBy command before after ReadInput = Keeps before.written after.written
 FailsBy command before after Memory = Keeps before.written after.written
 FailsBy command before after WriteOutput = (output : List ℕ)
     × Answers command before after (Ok output) × AppendsPrefixOf before.written after.written output
-FailsBy command before after fault = GivesFault command before after fault
+FailsBy command before after fault =
+    Answers command before after (Err fault) × Keeps before.written after.written
 
 -- the input has this fault, or memory ran out
 abbrev pub IsFaultOfInput : Command → List ℕ → Fault → Type 0

@@ -1,37 +1,29 @@
 -- The command `walk`: its input marks paths and builds one file set on a stack, in postfix
 -- notation. Cited by contracts of public items through FoundFiles, LineFaults, Walked.
-use Rattle.std.specs.Prelude.{ℕ, Bool, true, false, List, [], ◌∷◌, ◌++◌, length, is_ok, Result, Ok, Err}
+use Rattle.std.specs.Prelude.{ℕ, Bool, true, false, List, [], ◌∷◌, ◌++◌, cond, length, is_ok, nat_lt, Result, Ok, Err}
 use Rattle.std.specs.List.{zip}
 use Rattle.jj_paths.specs.Paths.{Path, components, is_path_string}
 use Rattle.jj_globs.specs.GlobSyntax.{tokens_of}
 use Rattle.jj_globs.specs.GlobMeaning.{GlobSpec}
-use Rattle.jj_matchers.specs.Patterns.{Patterns}
-use Rattle.jj_program.specs.declared.file_set.Combination.{Combination}
+use Rattle.jj_program.specs.declared.file_set.matcher.FileSet.{FileSet}
+use Rattle.jj_program.specs.declared.file_set.matcher.FileSet.TheVariants.{Everything, Nothing, Files, Prefix, Globs}
 use Rattle.jj_program.specs.declared.fault.LineFault.{LineFault}
 use Rattle.jj_program.specs.declared.fault.LineFault.TheVariants.{BadPath, BadGlob, EmptyStack}
 use Rattle.jj_program.specs.declared.fault.Fault.{Fault}
 use Rattle.jj_program.specs.declared.fault.Fault.TheVariants.{Matchers}
-use Rattle.jj_program.specs.declared.walk_command.SetWord.{SetWord}
-use Rattle.jj_program.specs.declared.walk_command.SetWord.TheVariants.{Everything as Everything', Nothing as Nothing', Files as Files', Prefix as Prefix', Globs as Globs', PrefixGlobs}
+use Rattle.jj_program.specs.declared.file_set.SetWord.{SetWord}
+use Rattle.jj_program.specs.declared.file_set.SetWord.TheVariants.{Everything as Everything', Nothing as Nothing', Files as Files', Prefix as Prefix', Globs as Globs', PrefixGlobs}
 use Rattle.jj_program.specs.declared.walk_command.WalkForm.{WalkForm}
 use Rattle.jj_program.specs.declared.walk_command.WalkForm.TheVariants.{Mark, Push, Combine}
 use Rattle.jj_program.specs.declared.walk_command.TheConstants.{WALK_FORMS}
 use Rattle.jj_program.specs.Forms.{Kind, line_of, table}
 use Rattle.jj_program.specs.Lines.{lines_of, after_lines, result_and_then}
-use Rattle.jj_program.specs.SetTrees.{SetTree, one, both}
-
--- a set of files described by one line
-pub data NamedSet : Type 0 where
-  Everything : NamedSet
-  Nothing : NamedSet
-  Files : List Path → NamedSet
-  Prefix : List Path → NamedSet
-  Globs : Patterns → NamedSet
+use Rattle.jj_program.specs.SetTrees.{SetTree, one, combined_stack}
 
 -- the marked paths, and the stack with its top first
 pub record WalkState : Type 0 where
   pub marks : List Path
-  pub stack : List (SetTree NamedSet)
+  pub stack : List (SetTree FileSet)
 
 -- the initial state
 abbrev pub walk_start : WalkState
@@ -52,7 +44,7 @@ abbrev pub glob_kind : Kind GlobSpec
 glob_kind = record { is_one = is_glob_text; value_of = glob_of; otherwise = BadGlob }
 
 -- the set of a word and its fields; globs are in their directories
-abbrev pub named_set : SetWord → List Path → List GlobSpec → NamedSet
+abbrev pub named_set : SetWord → List Path → List GlobSpec → FileSet
 named_set Everything' paths globs = Everything
 named_set Nothing' paths globs = Nothing
 named_set Files' paths globs = Files paths
@@ -61,14 +53,6 @@ named_set Globs' paths globs = Globs (record { prefix_paths = false; patterns = 
 named_set PrefixGlobs paths globs =
     Globs (record { prefix_paths = true; patterns = zip paths globs })
 
--- combines the top two sets; the first operand is the one that was pushed first
-abbrev pub with_combined : List Path → Combination → List (SetTree NamedSet)
-    → Result WalkState LineFault
-with_combined marks combination [] = Err EmptyStack
-with_combined marks combination (alone ∷ []) = Err EmptyStack
-with_combined marks combination (second ∷ first ∷ stack) =
-    Ok (record { marks = marks; stack = both combination first second ∷ stack })
-
 -- the transition by an action
 abbrev pub walk_act : WalkState → WalkForm → List Path → List GlobSpec → Result WalkState LineFault
 walk_act state Mark paths globs =
@@ -76,7 +60,8 @@ walk_act state Mark paths globs =
 walk_act state (Push word) paths globs = Ok (record
     { marks = state.marks; stack = one (named_set word paths globs) ∷ state.stack })
 walk_act state (Combine combination) paths globs =
-    with_combined state.marks combination state.stack
+    cond (nat_lt (length state.stack) 2) (Err EmptyStack) (Ok (record
+    { marks = state.marks; stack = combined_stack combination state.stack }))
 
 -- the action, the paths and the globs of a line
 abbrev pub walk_line : List (List ℕ) → Result (WalkForm × List Path × List GlobSpec) LineFault
@@ -90,18 +75,15 @@ walk_step state fields =
 -- the meaning of a whole input: the marked paths and one set
 pub record WalkRequest : Type 0 where
   pub marks : List Path
-  pub set : SetTree NamedSet
+  pub set : SetTree FileSet
 
 -- the only set left on the stack; any other number of sets is a fault
-abbrev pub only_set : List Path → List (SetTree NamedSet) → Result WalkRequest Fault
+abbrev pub only_set : List Path → List (SetTree FileSet) → Result WalkRequest Fault
 only_set marks [] = Err (Matchers 0)
 only_set marks (set ∷ []) = Ok (record { marks = marks; set = set })
 only_set marks (set ∷ other ∷ stack) = Err (Matchers (length (set ∷ other ∷ stack)))
 
-abbrev pub walk_end : Result WalkState Fault → Result WalkRequest Fault
-walk_end (Ok state) = only_set state.marks state.stack
-walk_end (Err fault) = Err fault
-
 -- the request of an input, or its first fault
 abbrev pub walk_request : List ℕ → Result WalkRequest Fault
-walk_request text = walk_end (after_lines walk_step 1 walk_start (lines_of text))
+walk_request text = result_and_then (after_lines walk_step 1 walk_start (lines_of text))
+    (λ state. only_set state.marks state.stack)

@@ -1,8 +1,9 @@
 //! Line forms: a command is a table of rows, which are the word of a line, the shape of its fields
 //! and its action. Parsing of a line by such a table, and of its fields to values.
-ghost use Rattle.std.specs.Prelude.{◌≡◌, ◌<◌, List, ℕ, length, map, true, IfOk};
+ghost use Rattle.std.specs.Prelude.{◌≡◌, ◌<◌, List, ℕ, length, map, true, Ok, IfOk};
 ghost use Rattle.std.specs.List.{count_by, position_or_len};
-ghost use Rattle.jj_program.specs.Forms.{Kind, admits, borrowed_table, both, evens, form_line, form_named, line_of, odds, first_fields, second_fields, is_dash, value_at, values_at};
+ghost use Rattle.jj_program.specs.Forms.{Kind, admits, borrowed_table, evens, form_line, form_named, line_of, odds, first_fields, second_fields, is_dash, value_at, values_at};
+ghost use Rattle.jj_program.specs.Lines.{result_and_then};
 ghost use Rattle.jj_program.specs.Steps.{Agrees};
 ghost use Rattle.jj_program.specs.Texts.{texts_of};
 
@@ -164,10 +165,11 @@ fn parse_both<'t, A: Drop, F: Field<'t>, G: Field<'t>>(
     firsts: &[&'t str],
     seconds: &[&'t str],
 ) -> Result<(A, Vec<F>, Vec<G>), StepFault>
-    ensures { Agrees result
+    ensures { Agrees {A = A × List F.Value × List G.Value} result
         (λ line. (line.0, map F.value line.1.items, map G.value line.2.items))
-        (both action (values_at F.kind (texts_of firsts.now))
-        (values_at G.kind (texts_of seconds.now))) }
+        (result_and_then (values_at F.kind (texts_of firsts.now))
+        (λ xs. result_and_then (values_at G.kind (texts_of seconds.now))
+        (λ ys. Ok (action, xs, ys)))) }
 {
     let firsts = parse_fields(alloc, firsts)?;
     let seconds = parse_fields(alloc, seconds)?;

@@ -1,6 +1,6 @@
 //! The command `graph`: reads adjacency lists, then prints the topological order, the heads or the
 //! closest common nodes of the ids of each request.
-ghost use Rattle.std.specs.Prelude.{◌≡◌, ◌++◌, ℕ, All, List, Ok, IfOk, IfErr, OnOk, string_bytes};
+ghost use Rattle.std.specs.Prelude.{◌≡◌, ◌++◌, ◌∷◌, ℕ, All, List, Ok, IfOk, IfErr, OnOk, string_bytes};
 ghost use Rattle.std.specs.List.{Contains};
 ghost use Rattle.jj_program.specs.Lines.{IsFaultOf};
 ghost use Rattle.jj_program.specs.Steps.{Agrees};
@@ -8,14 +8,14 @@ ghost use Rattle.jj_program.specs.ListedGraphs.{named_by, shown_by};
 ghost use Rattle.jj_program.specs.GraphCommand.{GraphState, HasCycle, AnswersRequest, GivesGraph, graph_state, ids_of, graph_step, number_kind, numbers_line, with_node, with_request};
 ghost use Rattle.jj_program.specs.GraphViews.{graph_request_of, graph_state_of};
 
+use crate::edges::Edges;
 use crate::fault::{Fault, LineFault, StepFault};
 use crate::forms::{Field, Shape, parse_line};
-use crate::graph_walks::{ascending_common, ascending_heads, greatest_order, has_cycle};
+use crate::graph_walks::{Visited, ascending_common, ascending_heads, greatest_order, has_cycle};
 use crate::listed_graph::ListedGraph;
 use crate::number::parse_number;
 use crate::reading::{Reading, take_lines};
 use std::alloc::{AllocError, Global};
-use std::collections::BTreeMap;
 
 // A request with its ids.
 #[derive(Drop)]
@@ -28,7 +28,7 @@ pub(crate) enum GraphRequest {
 // The adjacency lists and the requests of the lines so far.
 #[derive(Drop)]
 pub(crate) struct GraphReading {
-    neighbors: BTreeMap<u64, Vec<u64>>,
+    edges: Edges,
     requests: Vec<GraphRequest>,
 }
 
@@ -66,18 +66,25 @@ pub(crate) const GRAPH_FORMS: &[(&str, Shape, GraphForm)] = &[
 
 impl GraphReading {
     // Adds the adjacency list of the first id.
-    fn list(&mut self, mut ids: Vec<u64>) -> Result<(), StepFault>
+    fn list(&mut self, ids: &[u64]) -> Result<(), StepFault>
         ensures { Agrees result (λ _. graph_state_of self.new)
-            (with_node (graph_state_of self.old) ids.items) }
+            (with_node (graph_state_of self.old) ids.now) }
     {
-        if ids.is_empty() {
-            return Ok(());
+        match ids.split_first() {
+            Some((id, neighbors)) => self.list_neighbors(*id, neighbors),
+            None => Ok(()),
         }
-        let id = ids.remove(0);
-        if self.neighbors.contains_key(&id) {
+    }
+
+    // Adds the adjacency list of an id.
+    fn list_neighbors(&mut self, id: u64, neighbors: &[u64]) -> Result<(), StepFault>
+        ensures { Agrees result (λ _. graph_state_of self.new)
+            (with_node (graph_state_of self.old) (id ∷ neighbors.now)) }
+    {
+        let is_first = self.edges.list(id, neighbors)?;
+        if !is_first {
             return Err(StepFault::Line(LineFault::RepeatedNode));
         }
-        self.neighbors.insert(id, ids)?;
         Ok(())
     }
 
@@ -101,7 +108,7 @@ impl<'t> Reading<'t> for GraphReading {
     fn take(&mut self, alloc: Global, fields: &[&'t str]) -> Result<(), StepFault> {
         let (form, first, second) = parse_line::<GraphForm, u64, u64>(alloc, GRAPH_FORMS, fields)?;
         match form {
-            GraphForm::Node => self.list(first),
+            GraphForm::Node => self.list(&first),
             GraphForm::Order => self.ask(GraphRequest::Order(first)),
             GraphForm::Heads => self.ask(GraphRequest::Heads(first)),
             GraphForm::Common => self.ask(GraphRequest::Common(first, second)),
@@ -115,22 +122,20 @@ pub(crate) fn graph_output(alloc: Global, text: &str) -> Result<Vec<u8>, Fault>
     ensures fault { IfErr result (λ fault. IsFaultOf fault (graph_state text.now)) }
 {
     let mut reading = GraphReading {
-        neighbors: BTreeMap::new(alloc),
+        edges: Edges::new(alloc),
         requests: Vec::new(alloc),
     };
     take_lines(alloc, &mut reading, text)?;
-    let GraphReading {
-        neighbors,
-        requests,
-    } = reading;
-    let graph = ListedGraph::new(neighbors, asked_ids(alloc, &requests)?)?;
+    let GraphReading { edges, requests } = reading;
+    let graph = ListedGraph::new(alloc, edges, asked_ids(alloc, &requests)?)?;
+    let mut visited = Visited::new(alloc);
     let cyclic = has_cycle(alloc, &graph)?;
     let mut output = String::new(alloc);
     for request in &requests {
         if cyclic {
             output.push_str("cycle\n")?;
         } else {
-            push_answer(alloc, &mut output, &graph, request)?;
+            push_answer(alloc, &mut output, &mut visited, &graph, request)?;
         }
     }
     Ok(output.into_bytes())
@@ -167,6 +172,7 @@ fn push_asked(ids: &mut Vec<u64>, request: &GraphRequest) -> Result<(), AllocErr
 fn push_answer(
     alloc: Global,
     output: &mut String,
+    visited: &mut Visited,
     graph: &ListedGraph,
     request: &GraphRequest,
 ) -> Result<(), AllocError>
@@ -182,11 +188,11 @@ fn push_answer(
             push_numbers(output, "order", &order)
         }
         GraphRequest::Heads(ids) => {
-            let heads = ascending_heads(alloc, graph, ids)?;
+            let heads = ascending_heads(alloc, visited, graph, ids)?;
             push_numbers(output, "heads", &heads)
         }
         GraphRequest::Common(set1, set2) => {
-            let common = ascending_common(alloc, graph, set1, set2)?;
+            let common = ascending_common(alloc, visited, graph, set1, set2)?;
             push_numbers(output, "common", &common)
         }
     }

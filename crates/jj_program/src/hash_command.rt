@@ -1,9 +1,11 @@
 //! The command `hash`: prints the BLAKE2b-512 digest of the content that each line describes.
-ghost use Rattle.std.specs.Prelude.{◌≡◌, ◌++◌, ℕ, List, Ok, IfOk, IfErr, OnOk};
+ghost use Rattle.std.specs.Prelude.{◌≡◌, ◌++◌, ℕ, List, Ok, IfOk, IfErr, OnOk, ok_or, option_map};
+ghost use Rattle.jj_content.specs.Blake2b.{blake2b};
+ghost use Rattle.jj_program.specs.declared.fault.LineFault.{LineFault};
 ghost use Rattle.jj_program.specs.Lines.{IsFaultOf};
 ghost use Rattle.jj_program.specs.Steps.{Agrees};
 ghost use Rattle.jj_program.specs.Texts.{texts_of};
-ghost use Rattle.jj_program.specs.HashCommand.{digest_line, digest_of, hashed, or_bad_hex, bytes_of_hex, hash_step, hash_output, GivesHash};
+ghost use Rattle.jj_program.specs.HashCommand.{digest_line, hashed, bytes_of_hex, hash_step, hash_output, GivesHash};
 ghost use Rattle.jj_program.specs.HashViews.{HasSize};
 
 use crate::fault::{Fault, LineFault, StepFault};
@@ -68,7 +70,7 @@ pub(crate) fn hash_lines(alloc: Global, text: &str) -> Result<Vec<u8>, Fault>
 // The digest of the content of a line with these fields.
 fn input_digest(alloc: Global, input: HashInput, fields: &[&str]) -> Result<[u8; 64], StepFault>
     requires { HasSize input (texts_of fields.now) }
-    ensures { Agrees result (λ digest. digest) (digest_of (hashed input (texts_of fields.now))) }
+    ensures { Agrees result (λ digest. digest) (hashed input (texts_of fields.now)) }
 {
     match input {
         HashInput::Raw => match fields {
@@ -89,7 +91,8 @@ fn input_digest(alloc: Global, input: HashInput, fields: &[&str]) -> Result<[u8;
 
 // The digest of the bytes of a hex string.
 fn raw_digest(alloc: Global, text: &str) -> Result<[u8; 64], StepFault>
-    ensures { Agrees result (λ digest. digest) (digest_of (or_bad_hex (bytes_of_hex text.now))) }
+    ensures { Agrees result (λ digest. digest)
+        (ok_or (option_map blake2b (bytes_of_hex text.now)) LineFault.BadHex) }
 {
     let Some(bytes) = decode_hex(alloc, text.as_bytes())? else {
         return Err(StepFault::Line(LineFault::BadHex));

@@ -2,6 +2,7 @@
 //! or reports the first fault.
 #![tactic(auto)]
 
+mod edges;
 mod fault;
 mod file_set;
 mod forms;

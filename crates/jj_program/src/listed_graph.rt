@@ -1,65 +1,98 @@
-//! A graph as adjacency lists, with dense numbers for its ids. Walks hash these numbers and not the
-//! ids, so an input cannot choose hash collisions.
-ghost use Rattle.std.specs.Prelude.{◌≡◌, All, IfOk};
+//! A graph as adjacency lists over dense numbers, which are the nodes of all walks. Walks keep what
+//! they know of these numbers without hashing, so an input cannot choose hash collisions.
+ghost use Rattle.std.specs.Prelude.{◌≡◌, ◌<◌, ◌≤◌, All, IfOk, ℕ, get_or, length, map};
 ghost use Rattle.std.specs.List.{Contains};
-ghost use Rattle.jj_program.specs.Neighbors.{listed_in, HoldsNeighbors};
+ghost use Rattle.jj_program.specs.Edges.{listed_by, part_at};
 ghost use Rattle.jj_program.specs.GraphCommand.{graph_of};
+ghost use Rattle.jj_program.specs.Neighbors.{HoldsEach};
+ghost use Rattle.jj_program.specs.Numbering.{id_of};
 
+use crate::edges::Edges;
 use crate::numbering::Numbering;
-use std::alloc::AllocError;
-use std::collections::BTreeMap;
+use std::alloc::{AllocError, Global};
 
-// Adjacency lists by id. Each id in a list has a number.
+// Adjacency lists, and the numbers of the ids in them.
 #[derive(Drop)]
 pub(crate) struct ListedGraph {
-    neighbors: BTreeMap<u64, Vec<u64>>,
+    edges: Edges,
     numbering: Numbering,
-    ghost named: { HoldsNeighbors (graph_of (listed_in neighbors)) numbering.ids.items },
+    // The number of each target.
+    targets: Vec<usize>,
+    // The part of the targets that is the list of each number.
+    parts: Vec<(usize, usize)>,
+    ghost among: { HoldsEach edges.targets.items numbering.ids.items },
+    ghost numbered: { map (id_of numbering.ids.items) targets.items ≡ edges.targets.items },
+    ghost parted: { parts.items ≡ map (part_at edges) numbering.ids.items },
 }
 
 impl ListedGraph {
-    ghost use Rattle.jj_program.specs.ListedGraphs.{named_by, shown_by};
-    ghost use Rattle.jj_program.specs.Numbering.{IsNumberOf};
+    ghost use Rattle.jj_program.specs.ListedGraphs.{IsRowOf, named_by, shown_by};
 
     // Numbers the ids of the lists and of the requests.
     pub(crate) fn new(
-        neighbors: BTreeMap<u64, Vec<u64>>,
+        alloc: Global,
+        edges: Edges,
         asked: Vec<u64>,
     ) -> Result<ListedGraph, AllocError>
-        ensures graph { IfOk result (λ graph. shown_by graph ≡ graph_of (listed_in neighbors)) }
+        ensures graph { IfOk result (λ graph. shown_by graph ≡ graph_of (listed_by edges)) }
         ensures asked { IfOk result (λ graph. All (Contains (named_by graph)) asked.items) }
     {
         let mut ids = asked;
-        for list in neighbors.values() {
-            ids.extend_from_slice(list.as_slice())?;
-        }
+        ids.extend_from_slice(edges.targets())?;
+        let numbering = Numbering::new(ids);
+        let targets = numbering.numbers_of(alloc, edges.targets())?;
+        let parts = edges.parts_of(alloc, numbering.ids())?;
         Ok(ListedGraph {
-            neighbors,
-            numbering: Numbering::new(ids),
+            edges,
+            numbering,
+            targets,
+            parts,
         })
     }
 
-    // The numbered ids, ascending.
-    pub(crate) fn ids(&self) -> &[u64]
-        ensures { result.now ≡ named_by self.now }
+    // The numbers of all neighbours.
+    pub(crate) fn targets(&self) -> &[usize]
+        ensures { result.now ≡ self.now.targets.items }
     {
-        self.numbering.ids()
+        &self.targets
     }
 
-    // The number of an id, unique among the numbered ids.
-    pub(crate) fn number(&self, id: u64) -> usize
-        ensures { Contains (named_by self.now) id → IsNumberOf (named_by self.now) id result }
+    // Returns the numbers of these ids.
+    pub(crate) fn numbers_of(&self, alloc: Global, ids: &[u64]) -> Result<Vec<usize>, AllocError>
+        requires { All (Contains (named_by self.now)) ids.now }
+        ensures { IfOk result (λ numbers. map (id_of (named_by self.now)) numbers.items
+            ≡ ids.now) }
     {
-        self.numbering.number(id)
+        self.numbering.numbers_of(alloc, ids)
     }
 
-    // The neighbours of a node; empty if it has no list.
-    pub(crate) fn neighbors_of(&self, id: u64) -> &[u64]
-        ensures { result.now ≡ shown_by self.now id }
+    // Returns the ids of these numbers.
+    pub(crate) fn ids_of(&self, alloc: Global, numbers: &[usize]) -> Result<Vec<u64>, AllocError>
+        requires { All (λ number. number < length (named_by self.now)) numbers.now }
+        ensures { IfOk result (λ ids. ids.items
+            ≡ map (id_of (named_by self.now)) numbers.now) }
     {
-        match self.neighbors.get(&id) {
-            Some(neighbors) => neighbors.as_slice(),
-            None => &[],
+        self.numbering.ids_of(alloc, numbers)
+    }
+
+    // Returns the numbers of the neighbours of a number.
+    pub(crate) fn neighbors_of(&self, number: usize) -> &[usize]
+        ensures { IsRowOf self.now number result.now }
+    {
+        let (start, end) = self.part(number);
+        &self.targets[start..end]
+    }
+
+    // Where the list of a number starts and ends.
+    fn part(&self, number: usize) -> (usize, usize)
+        ensures at { number < length (named_by self.now) → result
+            ≡ part_at self.now.edges (get_or (named_by self.now) number 0) }
+        ensures within { (result.0 ≤ result.1) × (result.1 ≤ length self.now.targets.items) }
+    {
+        if number < self.parts.len() {
+            self.parts[number]
+        } else {
+            (0, 0)
         }
     }
 }

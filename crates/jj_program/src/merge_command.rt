@@ -1,9 +1,11 @@
 //! The command `merge`: simplifies or resolves a merge of strings per line.
-ghost use Rattle.std.specs.Prelude.{◌≡◌, ◌++◌, map, ℕ, List, Ok, IfOk, IfErr, OnOk, length};
+ghost use Rattle.std.specs.Prelude.{◌≡◌, ◌++◌, map, ℕ, List, All, Ok, IfOk, IfErr, OnOk, length};
 ghost use Rattle.jj_merges.specs.Merge.{IsOdd};
 ghost use Rattle.jj_program.specs.Lines.{IsFaultOf};
-ghost use Rattle.jj_program.specs.MergeCommand.{MergeRequest, merge_step, merge_requests, IsMergeAnswer, GivesMerge};
-ghost use Rattle.jj_program.specs.MergeViews.{merge_request_of, merge_requests_of};
+ghost use Rattle.jj_program.specs.MergeCommand.{AnswersQuestion, IsMergeAnswer, MergeRequest, merge_step, merge_requests, GivesMerge};
+ghost use Rattle.jj_program.specs.Requests.{AnswersEach};
+ghost use Rattle.jj_program.specs.Texts.{texts_of};
+ghost use Rattle.jj_program.specs.MergeViews.{IsWithin, request_in};
 
 use crate::fault::{Fault, StepFault};
 use crate::forms::{Shape, form_line};
@@ -27,17 +29,21 @@ pub(crate) const MERGE_FORMS: &[(&str, Shape, Question)] = &[
     ("accept", Shape::Odd, Question::Resolve(SameChange::Accept)),
 ];
 
-// A requested operation and its operand.
+// A requested operation on the terms from `start` to `end`.
 #[derive(Drop)]
-pub(crate) struct MergeRequest<'t> {
+pub(crate) struct MergeRequest {
     question: Question,
-    terms: Merge<&'t str>,
+    start: usize,
+    end: usize,
 }
 
-// The requests of the lines so far. They run only when the whole input is valid.
+// The requests of the lines so far, and the terms of all of them in one list, so that a line needs
+// no allocation of its own. Requests run only when the whole input is valid.
 #[derive(Drop)]
 pub(crate) struct MergeReading<'t> {
-    requests: Vec<MergeRequest<'t>>,
+    terms: Vec<&'t str>,
+    requests: Vec<MergeRequest>,
+    ghost within: { All (IsWithin (length terms.items)) requests.items },
 }
 
 // Builds a merge of an odd number of terms.
@@ -53,14 +59,20 @@ pub(crate) fn merge_of<'t>(alloc: Global, terms: &[&'t str]) -> Result<Merge<&'t
 impl<'t> Reading<'t> for MergeReading<'t> {
     ghost State = { List MergeRequest };
 
-    ghost state = { merge_requests_of };
+    ghost state = { λ reading. map (request_in reading.terms.items) reading.requests.items };
 
     ghost step = { merge_step };
 
-    fn take(&mut self, alloc: Global, fields: &[&'t str]) -> Result<(), StepFault> {
+    fn take(&mut self, _alloc: Global, fields: &[&'t str]) -> Result<(), StepFault> {
         let (question, _shape, terms) = form_line(MERGE_FORMS, fields)?;
-        let terms = merge_of(alloc, terms)?;
-        self.requests.push(MergeRequest { question, terms })?;
+        let start = self.terms.len();
+        self.terms.extend_from_slice(terms)?;
+        let end = self.terms.len();
+        self.requests.push(MergeRequest {
+            question,
+            start,
+            end,
+        })?;
         Ok(())
     }
 }
@@ -71,32 +83,66 @@ pub(crate) fn merge_output(alloc: Global, text: &str) -> Result<Vec<u8>, Fault>
     ensures fault { IfErr result (λ fault. IsFaultOf fault (merge_requests text.now)) }
 {
     let mut reading = MergeReading {
+        terms: Vec::new(alloc),
         requests: Vec::new(alloc),
     };
     take_lines(alloc, &mut reading, text)?;
+    let MergeReading { terms, requests } = reading;
+    Ok(answer_lines(alloc, &terms, &requests)?)
+}
+
+// Performs the requests on these terms and returns their lines.
+fn answer_lines(
+    alloc: Global,
+    terms: &[&str],
+    requests: &[MergeRequest],
+) -> Result<Vec<u8>, AllocError>
+    requires { All (IsWithin (length terms.now)) requests.now }
+    ensures { IfOk result (λ output. AnswersEach IsMergeAnswer
+        (map (request_in terms.now) requests.now) output.items) }
+{
     let mut output = Vec::new(alloc);
-    for request in &reading.requests {
-        push_answer(alloc, &mut output, request)?;
+    for request in requests {
+        perform(alloc, &mut output, terms, request)?;
     }
     Ok(output)
 }
 
-// Runs a request and appends its line to the output.
+// Performs a request on its own of these terms and appends its line to the output.
+fn perform(
+    alloc: Global,
+    output: &mut Vec<u8>,
+    terms: &[&str],
+    request: &MergeRequest,
+) -> Result<(), AllocError>
+    requires { IsWithin (length terms.now) request.now }
+    ensures { OnOk result ((answer : List ℕ)
+        × IsMergeAnswer (request_in terms.now request.now) answer
+        × (output.new.items ≡ output.old.items ++ answer)) }
+{
+    let own = &terms[request.start..request.end];
+    push_answer(alloc, output, request.question, own)
+}
+
+// Performs an operation and appends its line to the output.
 fn push_answer(
     alloc: Global,
     output: &mut Vec<u8>,
-    request: &MergeRequest<'_>,
+    question: Question,
+    terms: &[&str],
 ) -> Result<(), AllocError>
-    ensures { OnOk result ((answer : List ℕ) × IsMergeAnswer (merge_request_of request.now) answer
+    requires { IsOdd (length terms.now) }
+    ensures { OnOk result ((answer : List ℕ)
+        × AnswersQuestion question (texts_of terms.now) answer
         × (output.new.items ≡ output.old.items ++ answer)) }
 {
-    match request.question {
+    match question {
         Question::Simplify => {
-            let left = request.terms.simplify(alloc)?;
+            let left = merge_of(alloc, terms)?.simplify(alloc)?;
             push_line(output, "terms", left.as_slice())
         }
         Question::Resolve(same_change) => {
-            let found = outcome(alloc, &request.terms, same_change)?;
+            let found = outcome(alloc, terms, same_change)?;
             match found {
                 Some(term) => push_line(output, "resolved", &[term]),
                 None => push_line(output, "conflict", &[]),

@@ -7,32 +7,36 @@ ghost use Rattle.jj_merges.specs.Merge as merge;
 ghost use Rattle.jj_merges.specs.Resolution.{ResolvesTo};
 ghost use Rattle.jj_program.specs.TextMerges.{text_eq, HaveCountsOf, IsTextOutcome};
 
-use jj_merges::merge::{EverySecond, Merge, SameChange};
+use crate::merge_command::merge_of;
+use jj_merges::merge::{EverySecond, Merge, SameChange, trivial_merge};
 use std::alloc::{AllocError, Global};
 
 // Merges with at least this many terms are sorted first; shorter ones are compared directly.
 const MANY_TERMS: usize = 64;
 
-// Resolves the merge if the signed counts of its terms determine one value. Allocates only if the
-// merge has at least `MANY_TERMS` terms.
+// Resolves a merge of these terms if their signed counts determine one value. Allocates only if
+// there are at least `MANY_TERMS`.
 pub(crate) fn outcome<'t>(
     alloc: Global,
-    terms: &Merge<&'t str>,
+    terms: &[&'t str],
     same_change: SameChange,
 ) -> Result<Option<&'t str>, AllocError>
+    requires { IsOdd (length terms.now) }
     ensures { IfOk result (IsTextOutcome same_change terms.now) }
 {
-    if terms.as_slice().len() < MANY_TERMS {
+    if terms.len() < MANY_TERMS {
         return Ok(decided_text(terms, same_change));
     }
-    let left = with_pairs_cancelled(alloc, terms)?;
-    Ok(decided_text(&left, same_change))
+    let merge = merge_of(alloc, terms)?;
+    let left = with_pairs_cancelled(alloc, &merge)?;
+    Ok(decided_text(left.as_slice(), same_change))
 }
 
-fn decided_text<'t>(terms: &Merge<&'t str>, same_change: SameChange) -> Option<&'t str>
+fn decided_text<'t>(terms: &[&'t str], same_change: SameChange) -> Option<&'t str>
+    requires { IsOdd (length terms.now) }
     ensures { IsTextOutcome same_change terms.now result }
 {
-    match terms.resolve_trivial(same_change) {
+    match trivial_merge(terms, same_change) {
         Some(term) => Some(*term),
         None => None,
     }

@@ -1,8 +1,8 @@
 //! Dense numbering of ids: the number of an id is its index in the sorted list.
-ghost use Rattle.std.specs.Prelude.{◌≡◌, ◌<◌, ℕ, IfOk, All, length};
+ghost use Rattle.std.specs.Prelude.{◌≡◌, ◌<◌, ℕ, IfOk, All, length, map};
 ghost use Rattle.std.specs.List.{Contains};
 ghost use Rattle.std.specs.List.Sorted.{IsStrictlyIncreasing};
-ghost use Rattle.jj_program.specs.Numbering.{IsNumberOf};
+ghost use Rattle.jj_program.specs.Numbering.{IsNumberOf, id_of};
 
 use std::alloc::{AllocError, Global};
 
@@ -29,10 +29,42 @@ impl Numbering {
         &self.ids
     }
 
-    // The index of an id by binary search; unspecified for an id that is not in the list.
-    pub(crate) fn number(&self, id: u64) -> usize
+    // Returns the numbers of these ids; takes the least time if they are ascending.
+    pub(crate) fn numbers_of(&self, alloc: Global, ids: &[u64]) -> Result<Vec<usize>, AllocError>
+        requires { All (Contains self.now.ids.items) ids.now }
+        ensures { IfOk result (λ numbers. map (id_of self.now.ids.items) numbers.items
+            ≡ ids.now) }
+    {
+        let mut numbers = Vec::with_capacity(alloc, ids.len())?;
+        let mut next = 0;
+        for id in ids {
+            let number = self.number(next, *id);
+            numbers.push(number)?;
+            next = number.wrapping_add(1);
+        }
+        Ok(numbers)
+    }
+
+    // Returns the ids of these numbers.
+    pub(crate) fn ids_of(&self, alloc: Global, numbers: &[usize]) -> Result<Vec<u64>, AllocError>
+        requires { All (λ number. number < length self.now.ids.items) numbers.now }
+        ensures { IfOk result (λ ids. ids.items ≡ map (id_of self.now.ids.items) numbers.now) }
+    {
+        let mut ids = Vec::with_capacity(alloc, numbers.len())?;
+        for number in numbers {
+            ids.push(self.ids[*number])?;
+        }
+        Ok(ids)
+    }
+
+    // Returns the index of an id, which may be this one; unspecified for an id that is not in the
+    // list.
+    fn number(&self, guess: usize, id: u64) -> usize
         ensures { Contains self.now.ids.items id → IsNumberOf self.now.ids.items id result }
     {
+        if guess < self.ids.len() && self.ids[guess] == id {
+            return guess;
+        }
         match self.ids.binary_search(&id) {
             Ok(place) => place,
             Err(place) => place,

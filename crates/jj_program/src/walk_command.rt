@@ -8,20 +8,18 @@ ghost use Rattle.jj_globs.specs.GlobMeaning.{GlobSpec};
 ghost use Rattle.jj_matchers.specs.Marks.{IsMarkedTree};
 ghost use Rattle.jj_program.specs.Lines.{IsFaultOf};
 ghost use Rattle.jj_program.specs.SetTrees.{SetTree};
-ghost use Rattle.jj_program.specs.WalkCommand.{NamedSet, WalkState, glob_kind, named_set, path_kind, with_combined, walk_step, walk_request};
-ghost use Rattle.jj_program.specs.SetViews.{set_of};
-ghost use Rattle.jj_program.specs.SetStacks.{sets_in};
-ghost use Rattle.jj_program.specs.Steps.{Agrees};
-ghost use Rattle.jj_program.specs.WalkViews.{state_of};
+ghost use Rattle.jj_program.specs.WalkCommand.{WalkState, glob_kind, path_kind, walk_step, walk_request};
+ghost use Rattle.jj_program.specs.declared.file_set.matcher.FileSet.{FileSet};
+ghost use Rattle.jj_program.specs.WalkViews.{sets_in, state_of};
 ghost use Rattle.jj_program.specs.Walked.{GivesWalk, walk_lines, path_lines};
 
 use crate::fault::{Fault, LineFault, StepFault};
 use crate::file_set::Combination::{Difference, Intersection, Union};
-use crate::file_set::{Combination, FileSet, SetStack, walk_set};
+use crate::file_set::SetWord::{Everything, Files, Globs, Nothing, Prefix, PrefixGlobs};
+use crate::file_set::{Combination, SetLine, SetStack, SetWord, walk_set};
 use crate::forms::{Field, Shape, parse_line};
 use crate::output_lines::push_line;
 use crate::reading::{Reading, take_lines};
-use crate::walk_command::SetWord::{Everything, Files, Globs, Nothing, Prefix, PrefixGlobs};
 use crate::walk_command::WalkForm::{Combine, Mark, Push};
 use jj_globs::glob::GlobError;
 use jj_matchers::matchers::{PathGlobPattern, marked_tree};
@@ -71,17 +69,6 @@ impl<'t> Field<'t> for PathGlobPattern {
     }
 }
 
-// The sets that a line can push.
-#[derive(Clone, Copy, PartialEq, Eq)]
-pub(crate) enum SetWord {
-    Everything,
-    Nothing,
-    Files,
-    Prefix,
-    Globs,
-    PrefixGlobs,
-}
-
 // The action of a line.
 #[derive(Clone, Copy)]
 pub(crate) enum WalkForm {
@@ -104,37 +91,6 @@ pub(crate) const WALK_FORMS: &[(&str, Shape, WalkForm)] = &[
     ("intersection", Shape::Empty, Combine(Intersection)),
 ];
 
-// The set of a word and its fields.
-fn file_set<'t>(word: SetWord, paths: Vec<RepoPath<'t>>, globs: Vec<PathGlobPattern>) -> FileSet<'t>
-    ensures { set_of result ≡ named_set word (map path_of paths.entry.items) globs.items }
-{
-    match word {
-        Everything => FileSet::Everything,
-        Nothing => FileSet::Nothing,
-        Files => FileSet::Files(paths),
-        Prefix => FileSet::Prefix(paths),
-        Globs | PrefixGlobs => FileSet::Globs {
-            prefix_paths: word == PrefixGlobs,
-            dirs: paths,
-            globs,
-        },
-    }
-}
-
-impl<'t> WalkReading<'t> {
-    // Replaces the top two sets by their combination.
-    fn combine(&mut self, combination: Combination) -> Result<(), StepFault>
-        ensures { Agrees result (λ _. state_of self.new)
-            (with_combined (state_of self.old).marks combination (state_of self.old).stack) }
-    {
-        if self.sets.height() < 2 {
-            return Err(StepFault::Line(LineFault::EmptyStack));
-        }
-        self.sets.combine(combination)?;
-        Ok(())
-    }
-}
-
 impl<'t> Reading<'t> for WalkReading<'t> {
     ghost State = { WalkState };
 
@@ -148,8 +104,9 @@ impl<'t> Reading<'t> for WalkReading<'t> {
         )?;
         match form {
             Mark => Ok(self.marks.extend_from_slice(&paths)?),
-            Push(word) => Ok(self.sets.push(file_set(word, paths, globs))?),
-            Combine(combination) => self.combine(combination),
+            Push(word) => Ok(self.sets.push(SetLine { word, paths, globs })?),
+            Combine(_) if self.sets.height() < 2 => Err(StepFault::Line(LineFault::EmptyStack)),
+            Combine(combination) => Ok(self.sets.combine(combination)?),
         }
     }
 }
@@ -178,7 +135,7 @@ fn found_lines(
     sets: SetStack<'_>,
 ) -> Result<Vec<u8>, AllocError>
     requires { length (sets_in sets) ≡ 1 }
-    ensures { IfOk result (λ output. (set : SetTree NamedSet) → sets_in sets.entry ≡ set ∷ []
+    ensures { IfOk result (λ output. (set : SetTree FileSet) → sets_in sets.entry ≡ set ∷ []
         → (tree : Tree Bool) × IsMarkedTree (map path_of marks.entry.items) tree
         × (output.items ≡ walk_lines set tree)) }
 {

@@ -1,85 +1,144 @@
-//! The matcher of a combined set, evaluated over its postfix code.
-ghost use Rattle.std.specs.Prelude.{◌≡◌, ◌+◌, ◌<◌, ◌^◌, false, List, [], ◌∷◌, length, map, reverse, IfOk};
+//! The matchers of a set that a line pushes and of a combined set, which is evaluated over its
+//! code.
+ghost use Rattle.std.specs.Prelude.{◌≡◌, List, [], ◌∷◌, length, map, reverse, IfOk};
+ghost use Rattle.std.specs.List.{AllZip, zip};
 ghost use Rattle.jj_paths.specs.Names.{path_of};
-ghost use Rattle.jj_paths.specs.Paths.{Name, Path};
-ghost use Rattle.jj_matchers.specs.MentionedNames.{MentionsOnly};
+ghost use Rattle.jj_paths.specs.Paths.{Path};
+ghost use Rattle.jj_matchers.specs.Patterns.{HasSamePatterns};
 ghost use Rattle.jj_matchers.specs.Visits.{visit_spec};
 ghost use Rattle.jj_matchers.specs.Walk.{files_of, entered_by};
-ghost use Rattle.jj_program.specs.declared.file_set.leaf_matcher.LeafMatcher.{LeafMatcher};
-ghost use Rattle.jj_program.specs.declared.file_set.parts.Part.{Part};
-ghost use Rattle.jj_program.specs.Leaves.{leaf_accepts};
-ghost use Rattle.jj_program.specs.SetTrees.{SetTree, combined_stack, combined_answer};
-ghost use Rattle.jj_program.specs.SetParts.{after_part, pass_at, pass_over, sets_of};
-ghost use Rattle.jj_program.specs.SetViews.{part_of, sets_by};
-ghost use Rattle.jj_program.specs.Walked.{accepted_by, answered_by};
-ghost use Rattle.jj_program.specs.WalkCommand.{NamedSet};
-ghost use Rattle.jj_program.specs.Matching.{AnswerAll, IsAnswerOf, IsTold, StandForParts, StandsForPart, made_by};
+ghost use Rattle.jj_program.specs.declared.file_set.SetOp.{SetOp};
+ghost use Rattle.jj_program.specs.SetTrees.{SetTree, both};
+ghost use Rattle.jj_program.specs.SetViews.{op_of, set_of};
+ghost use Rattle.jj_program.specs.Matching.{IsAlike, IsAlikeOp, IsTold, made_by, visits_at};
+ghost use Rattle.jj_program.specs.Walked.{leaf_spec, spec_of};
+ghost use Rattle.jj_program.specs.WalkViews.{sets_in};
 
-use crate::file_set::leaf_matcher::LeafMatcher;
-use crate::file_set::parts::{Part, Pass, parts};
-use crate::file_set::{Combination, FileSet, SetStack};
+use crate::file_set::code::{compile, evaluate};
+use crate::file_set::{Combination, SetLine, SetOp, SetStack, SetWord};
 use jj_matchers::matchers::{
-    Matcher, Visit, Walk, difference_visit, intersection_visit, union_visit, walk_matching,
+    EverythingMatcher, FilesMatcher, GlobsMatcher, Matcher, NothingMatcher, PathGlobPattern,
+    PrefixMatcher, Visit, Walk, difference_visit, intersection_visit, union_visit, walk_matching,
 };
 use jj_paths::repo_path::RepoPath;
 use jj_paths::repo_path_tree::RepoPathTree;
 use std::alloc::{AllocError, Global};
 
-// A combined set. No operation recurses, however deep the combinations nest.
+// A set of files described by one line, as its matcher.
 #[derive(Drop)]
-pub(crate) struct SetMatcher {
-    parts: Vec<Part<LeafMatcher>>,
-    ghost told: { IsTold parts.items },
+pub(crate) enum FileSet {
+    Everything,
+    Nothing,
+    Files(FilesMatcher),
+    Prefix(PrefixMatcher),
+    Globs(GlobsMatcher),
 }
 
-impl Matcher for SetMatcher {
-    ghost use Rattle.jj_program.specs.SetMatching.{accepts_of, opens_of, answers_of, candidates_of};
+impl Matcher for FileSet {
+    ghost use Rattle.jj_program.specs.Walked.{leaf_spec};
 
-    ghost accepts = { accepts_of };
+    ghost accepts = { λ set. (leaf_spec set).accepts };
 
-    ghost opens = { opens_of };
+    ghost opens = { λ set. (leaf_spec set).opens };
 
-    ghost visits = { answers_of };
+    ghost visits = { λ set. (leaf_spec set).visits };
 
-    ghost mentioned = { candidates_of };
+    ghost mentioned = { λ set dir. (leaf_spec set).names };
 
     fn matches(&self, file: RepoPath<'_>) -> bool {
-        parts_match(&self.parts, file)
+        match self {
+            FileSet::Everything => EverythingMatcher.matches(file),
+            FileSet::Nothing => NothingMatcher.matches(file),
+            FileSet::Files(matcher) => matcher.matches(file),
+            FileSet::Prefix(matcher) => matcher.matches(file),
+            FileSet::Globs(matcher) => matcher.matches(file),
+        }
     }
 
     fn visit(&self, alloc: Global, dir: RepoPath<'_>) -> Result<Visit, AllocError> {
-        visit_parts(alloc, &self.parts, dir)
+        match self {
+            FileSet::Everything => EverythingMatcher.visit(alloc, dir),
+            FileSet::Nothing => NothingMatcher.visit(alloc, dir),
+            FileSet::Files(matcher) => matcher.visit(alloc, dir),
+            FileSet::Prefix(matcher) => matcher.visit(alloc, dir),
+            FileSet::Globs(matcher) => matcher.visit(alloc, dir),
+        }
     }
 }
 
-// Membership of a file, by one pass over the code.
-fn parts_match(parts: &[Part<LeafMatcher>], file: RepoPath<'_>) -> bool
-    ensures { result ≡ (pass_over (leaf_accepts (path_of file.entry)) parts.now
-        (pass_at 0 false)).is_in }
-{
-    let mut pass = Pass::new();
-    let mut left = parts.len();
-    while left > 0 {
-        left -= 1;
-        pass = after_part(pass, &parts[left], file);
+impl FileSet {
+    // Builds the matcher of the set that a line pushes.
+    fn new(alloc: Global, line: &SetLine<'_>) -> Result<FileSet, AllocError>
+        ensures { IfOk result (λ set. IsAlike (leaf_spec set) (leaf_spec (set_of line.now))) }
+    {
+        match line.word {
+            SetWord::Everything => Ok(FileSet::Everything),
+            SetWord::Nothing => Ok(FileSet::Nothing),
+            SetWord::Files => Ok(FileSet::Files(FilesMatcher::new(alloc, &line.paths)?)),
+            SetWord::Prefix => Ok(FileSet::Prefix(PrefixMatcher::new(alloc, &line.paths)?)),
+            SetWord::Globs => Ok(FileSet::Globs(globs_matcher(alloc, false, line)?)),
+            SetWord::PrefixGlobs => Ok(FileSet::Globs(globs_matcher(alloc, true, line)?)),
+        }
     }
-    pass.is_in
+}
+
+// Builds the matcher of a line's globs, each below its path.
+fn globs_matcher(
+    alloc: Global,
+    prefix_paths: bool,
+    line: &SetLine<'_>,
+) -> Result<GlobsMatcher, AllocError>
+    ensures { IfOk result (λ matcher. HasSamePatterns matcher (record {
+      prefix_paths = prefix_paths;
+      patterns = zip (map path_of line.now.paths.items)
+          line.now.globs.items;
+    })) }
+{
+    let mut builder = GlobsMatcher::builder(alloc).prefix_paths(prefix_paths);
+    for (dir, glob) in line.paths.iter().zip(&line.globs) {
+        builder.add(*dir, glob)?;
+    }
+    builder.build()
+}
+
+// A combined set. No operation recurses, however deep the combinations nest.
+#[derive(Drop)]
+pub(crate) struct SetMatcher {
+    code: Vec<SetOp<FileSet>>,
+    ghost told: { IsTold code.items },
+}
+
+impl Matcher for SetMatcher {
+    ghost use Rattle.jj_program.specs.Matching.{made_by};
+    ghost use Rattle.jj_program.specs.Walked.{spec_of};
+
+    ghost accepts = { λ matcher. (spec_of (made_by matcher.code.items)).accepts };
+
+    ghost opens = { λ matcher. (spec_of (made_by matcher.code.items)).opens };
+
+    ghost visits = { λ matcher. (spec_of (made_by matcher.code.items)).visits };
+
+    ghost mentioned = { λ matcher dir. (spec_of (made_by matcher.code.items)).names };
+
+    fn matches(&self, file: RepoPath<'_>) -> bool {
+        evaluate(&self.code, file)
+    }
+
+    fn visit(&self, alloc: Global, dir: RepoPath<'_>) -> Result<Visit, AllocError> {
+        visit_by(alloc, &self.code, dir)
+    }
 }
 
 // The visit of a directory, on a stack of the visits of operands.
-fn visit_parts(
-    alloc: Global,
-    parts: &[Part<LeafMatcher>],
-    dir: RepoPath<'_>,
-) -> Result<Visit, AllocError>
-    ensures { IfOk result (λ visit. IsAnswerOf (path_of dir.entry) (made_by parts.now)
-        (visit_spec visit)) }
+fn visit_by(alloc: Global, code: &[SetOp<FileSet>], dir: RepoPath<'_>) -> Result<Visit, AllocError>
+    ensures { IfOk result (λ visit. visit_spec visit
+        ≡ (spec_of (made_by code.now)).visits (path_of dir.entry)) }
 {
     let mut visits = Vec::new(alloc);
-    let mut left = parts.len();
+    let mut left = code.len();
     while left > 0 {
         left -= 1;
-        visit_part(alloc, &mut visits, &parts[left], dir)?;
+        visit_op(alloc, &mut visits, &code[left], dir)?;
     }
     match visits.pop() {
         Some(visit) => Ok(visit),
@@ -87,49 +146,34 @@ fn visit_parts(
     }
 }
 
-fn after_part(pass: Pass, part: &Part<LeafMatcher>, file: RepoPath<'_>) -> Pass
-    requires { pass.decided + 1 < 2 ^ 64 }
-    ensures { result ≡ after_part (leaf_accepts (path_of file.entry)) part.now pass }
-{
-    match part {
-        Part::Leaf(matcher) => {
-            if pass.decided > 0 {
-                pass
-            } else {
-                pass.after_leaf(matcher.matches(file))
-            }
-        }
-        Part::BeforeSecond(combination) => pass.before_second(*combination),
-        Part::AfterBoth(combination) => pass.after_both(*combination),
-    }
-}
-
-fn visit_part(
+fn visit_op(
     alloc: Global,
     visits: &mut Vec<Visit>,
-    part: &Part<LeafMatcher>,
+    op: &SetOp<FileSet>,
     dir: RepoPath<'_>,
 ) -> Result<(), AllocError>
-    ensures { IfOk result (λ done. (earlier : List (Part LeafMatcher))
-        → AnswerAll (path_of dir.entry) (sets_of earlier) (reverse visits.old.items)
-        → AnswerAll (path_of dir.entry) (sets_of (part.now ∷ earlier)) (reverse visits.new.items)) }
+    ensures { IfOk result (λ done. (earlier : List (SetOp FileSet))
+        → map visit_spec (reverse visits.old.items) ≡ visits_at (path_of dir.entry) earlier
+        → map visit_spec (reverse visits.new.items)
+        ≡ visits_at (path_of dir.entry) (op.now ∷ earlier)) }
 {
-    match part {
-        Part::Leaf(matcher) => {
-            let visit = matcher.visit(alloc, dir)?;
+    match op {
+        SetOp::Test(set) => {
+            let visit = set.visit(alloc, dir)?;
             visits.push(visit)?;
             Ok(())
         }
-        Part::BeforeSecond(_) => Ok(()),
-        Part::AfterBoth(combination) => combine_top(visits, *combination),
+        SetOp::ShortCircuit(_) => Ok(()),
+        SetOp::Combine(combination) => combine_top(visits, *combination),
     }
 }
 
 // Replaces the top two visits by their combination.
 fn combine_top(visits: &mut Vec<Visit>, combination: Combination) -> Result<(), AllocError>
-    ensures { IfOk result (λ done. (dir : Path) (stack : List (SetTree LeafMatcher))
-        → AnswerAll dir stack (reverse visits.old.items)
-        → AnswerAll dir (combined_stack combination stack) (reverse visits.new.items)) }
+    ensures { IfOk result (λ done. (dir : Path) (earlier : List (SetOp FileSet))
+        → map visit_spec (reverse visits.old.items) ≡ visits_at dir earlier
+        → map visit_spec (reverse visits.new.items)
+        ≡ visits_at dir (SetOp.Combine combination ∷ earlier)) }
 {
     if let Some(second) = visits.pop() {
         if let Some(first) = visits.pop() {
@@ -144,10 +188,10 @@ fn combined_visit(
     first: Visit,
     second: Visit,
 ) -> Result<Visit, AllocError>
-    ensures { IfOk result (λ visit. (names : List Name) → MentionsOnly names (visit_spec first)
-        → MentionsOnly names (visit_spec second)
-        → visit_spec visit
-        ≡ combined_answer combination names (visit_spec first) (visit_spec second)) }
+    ensures { IfOk result (λ visit. (dir : Path) (one two : SetTree FileSet)
+        → visit_spec first ≡ (spec_of one).visits dir
+        → visit_spec second ≡ (spec_of two).visits dir
+        → visit_spec visit ≡ (spec_of (both combination one two)).visits dir) }
 {
     match combination {
         Combination::Union => union_visit(first, second),
@@ -156,51 +200,44 @@ fn combined_visit(
     }
 }
 
-impl SetMatcher {
-    ghost use Rattle.jj_program.specs.SetMatching.{accepts_of, answers_of};
-    ghost use Rattle.jj_program.specs.SetStacks.{sets_in};
+// Builds the matcher of each set in the code.
+fn matchers_of(
+    alloc: Global,
+    code: &[SetOp<SetLine<'_>>],
+) -> Result<Vec<SetOp<FileSet>>, AllocError>
+    ensures { IfOk result (λ own. AllZip IsAlikeOp own.items (map op_of code.now)) }
+{
+    let mut own = Vec::new(alloc);
+    for op in code {
+        own.push(matcher_of(alloc, op)?)?;
+    }
+    Ok(own)
+}
 
+fn matcher_of(alloc: Global, op: &SetOp<SetLine<'_>>) -> Result<SetOp<FileSet>, AllocError>
+    ensures { IfOk result (λ own. IsAlikeOp own (op_of op.now)) }
+{
+    match op {
+        SetOp::Test(line) => {
+            let set = FileSet::new(alloc, line)?;
+            Ok(SetOp::Test(set))
+        }
+        SetOp::ShortCircuit(combination) => Ok(SetOp::ShortCircuit(*combination)),
+        SetOp::Combine(combination) => Ok(SetOp::Combine(*combination)),
+    }
+}
+
+impl SetMatcher {
     // Compiles the only set of a stack.
     fn new(alloc: Global, sets: SetStack<'_>) -> Result<SetMatcher, AllocError>
         requires { length (sets_in sets) ≡ 1 }
-        ensures accepts { IfOk result (λ matcher. (set : SetTree NamedSet)
-            → sets_in sets.entry ≡ set ∷ [] → (path : Path)
-            → accepts_of matcher path ≡ accepted_by set path) }
-        ensures answers { IfOk result (λ matcher. (set : SetTree NamedSet)
-            → sets_in sets.entry ≡ set ∷ [] → (dir : Path)
-            → answers_of matcher dir ≡ answered_by set dir) }
+        ensures { IfOk result (λ matcher. (set : SetTree FileSet) → sets_in sets.entry ≡ set ∷ []
+            → IsAlike (spec_of (made_by matcher.code.items)) (spec_of set)) }
     {
-        let parts = parts(alloc, sets.into_steps())?;
+        let code = compile(alloc, sets.into_ops())?;
         Ok(SetMatcher {
-            parts: part_matchers(alloc, &parts)?,
+            code: matchers_of(alloc, &code)?,
         })
-    }
-}
-
-// Builds the matcher of each leaf.
-fn part_matchers(
-    alloc: Global,
-    parts: &[Part<FileSet<'_>>],
-) -> Result<Vec<Part<LeafMatcher>>, AllocError>
-    ensures { IfOk result (λ matchers. StandForParts matchers.items (map part_of parts.now)) }
-{
-    let mut matchers = Vec::new(alloc);
-    for part in parts {
-        matchers.push(part_matcher(alloc, part)?)?;
-    }
-    Ok(matchers)
-}
-
-fn part_matcher(alloc: Global, part: &Part<FileSet<'_>>) -> Result<Part<LeafMatcher>, AllocError>
-    ensures { IfOk result (λ own. StandsForPart own (part_of part.now)) }
-{
-    match part {
-        Part::Leaf(set) => {
-            let matcher = LeafMatcher::new(alloc, set)?;
-            Ok(Part::Leaf(matcher))
-        }
-        Part::BeforeSecond(combination) => Ok(Part::BeforeSecond(*combination)),
-        Part::AfterBoth(combination) => Ok(Part::AfterBoth(*combination)),
     }
 }
 
@@ -210,13 +247,11 @@ pub(crate) fn walk_set(
     tree: &RepoPathTree<bool>,
     sets: SetStack<'_>,
 ) -> Result<Walk, AllocError>
-    requires { length (sets_by sets.steps.items) ≡ 1 }
-    ensures files { IfOk result (λ walk. (set : SetTree NamedSet)
-        → sets_by sets.entry.steps.items ≡ set ∷ []
-        → walk.files.items ≡ files_of (accepted_by set) tree.now) }
-    ensures entered { IfOk result (λ walk. (set : SetTree NamedSet)
-        → sets_by sets.entry.steps.items ≡ set ∷ []
-        → walk.entered.items ≡ entered_by (answered_by set) tree.now) }
+    requires { length (sets_in sets) ≡ 1 }
+    ensures files { IfOk result (λ walk. (set : SetTree FileSet) → sets_in sets.entry ≡ set ∷ []
+        → walk.files.items ≡ files_of (spec_of set).accepts tree.now) }
+    ensures entered { IfOk result (λ walk. (set : SetTree FileSet) → sets_in sets.entry ≡ set ∷ []
+        → walk.entered.items ≡ entered_by (spec_of set).visits tree.now) }
 {
     let matcher = SetMatcher::new(alloc, sets)?;
     walk_matching(alloc, tree, &matcher)

@@ -8,7 +8,6 @@ use Rattle.jj_program.specs.Requests.{AnswersEach}
 use Rattle.jj_program.specs.ListedGraphs.{named_by, shown_by}
 use Rattle.jj_program.specs.GraphCommand.{GraphState, IsGraphAnswer, graph_of, graph_start, graph_step, ids_of}
 use Rattle.jj_program.specs.GraphViews.{graph_request_of, graph_state_of}
-use Rattle.jj_program.proofs.ListedGraphs.{listed_in-empty}
 use Rattle.jj_program.proofs.Requests.{AnswersEach-more}
 use Rattle.jj_program.proofs.graph_command.graph_output.Goals as goal
 use Rattle.jj_program.proofs.graph_command.graph_output.Goals.{then-cyclic+in_ok-push_str, else-cyclic+in_ok-push_answer}
@@ -46,8 +45,8 @@ pub returns-clause-done : goal.returns-clause-done
 returns-clause-done c =
     let reading = c.take_lines.new.reading in
     let state : GraphState = graph_state_of reading in
-    let start : graph_state_of (record { neighbors = c.new.result; requests = c.new-2.result }) ≡ graph_start =
-    λ i. record { listed = (listed_in-empty c.new.result c.new.ensures.empty) i; requests = map graph_request_of (c.new-2.ensures.items i) } in
+    let start : graph_state_of (record { edges = c.new.result; requests = c.new-2.result }) ≡ graph_start =
+    λ i. record { listed = c.new.ensures i; requests = map graph_request_of (c.new-2.ensures.items i) } in
     let read = ap (λ s. after_lines graph_step 1 s (lines_of c.args.text.now)) (sym start) ∙ c.in_ok-take_lines.ensures in
     let items = c.deref-request-items.result.now in
     let whole : take c.loop-request.request-index items ≡ reading.requests.items = take_all c.loop-request.request-index items (omega arith) ∙ c.deref-request-items.ensures.value in

@@ -1,6 +1,5 @@
 use Rattle.std.proofs.Common.{◌∙◌, sym, subst, refl}
-use Rattle.jj_program.specs.Numbers.{IsPlain}
-use Rattle.jj_program.proofs.Numbers.{number_of-parse, number_of-not_plain}
+use Rattle.jj_program.proofs.Numbers.{IsPlain, number_of-parse, number_of-not_plain}
 use Rattle.jj_program.proofs.number.parse_number.Goals as goal
 
 pub returns : goal.returns

@@ -1,10 +1,9 @@
 use Rattle.std.proofs.Common.{◌≡◌, ◌∙◌, [], Ok, map, ap, sym}
 use Rattle.jj_paths.specs.Names.{path_of}
-use Rattle.jj_program.specs.Lines.{after_lines, lines_of}
-use Rattle.jj_program.specs.SetStacks.{sets_in}
-use Rattle.jj_program.specs.WalkCommand.{WalkRequest, walk_start, walk_step, walk_end, only_set, walk_request}
-use Rattle.jj_program.specs.WalkViews.{state_of}
-use Rattle.jj_program.proofs.SetCounts.{only_item}
+use Rattle.jj_program.specs.Lines.{after_lines, lines_of, result_and_then}
+use Rattle.jj_program.specs.WalkCommand.{WalkRequest, walk_start, walk_step, only_set, walk_request}
+use Rattle.jj_program.specs.WalkViews.{sets_in, state_of}
+use Rattle.jj_program.proofs.SetCode.{only_item}
 use Rattle.jj_program.proofs.walk_command.walk_output.Goals as goal
 
 pub returns-in_ok-found_lines-in-1-clause-done : goal.returns-in_ok-found_lines-in-1-clause-done
@@ -18,6 +17,6 @@ returns-in_ok-found_lines-in-1-clause-done c =
     ∙ ap (λ l. record { marks = []; stack = l }) c.new-2.ensures in
     let read : after_lines walk_step 1 walk_start (lines_of c.args.text.now) ≡ Ok (state_of reading) =
     ap (λ s. after_lines walk_step 1 s (lines_of c.args.text.now)) (sym start) ∙ c.in_ok-take_lines.ensures in
-    let asked : walk_request c.args.text.now ≡ Ok request = ap walk_end read ∙ ap (only_set marks) item.1 in
+    let asked : walk_request c.args.text.now ≡ Ok request = ap (λ r. result_and_then r (λ state. only_set state.marks state.stack)) read ∙ ap (only_set marks) item.1 in
     let (tree, marked, lines) = c.in_ok-found_lines-in-1.ensures item.0 item.1 in
     (request, asked, (tree, marked, lines))

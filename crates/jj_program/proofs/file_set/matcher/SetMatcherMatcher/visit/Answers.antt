@@ -1,20 +1,25 @@
-use Rattle.std.proofs.Common.{◌≡◌, subst}
+use Rattle.std.proofs.Common.{◌≡◌, ◌∙◌, ap, subst, sym}
 use Rattle.std.proofs.lemmas.Result.{IfOk-weaker}
 use Rattle.jj_paths.specs.Names.{path_of}
 use Rattle.jj_matchers.specs.VisitSpecs.{IsSound}
 use Rattle.jj_matchers.specs.MentionedNames.{MentionsOnly}
+use Rattle.jj_matchers.specs.declared.matchers.visits.Visit.{Visit}
 use Rattle.jj_matchers.specs.Visits.{visit_spec}
-use Rattle.jj_program.specs.Matching.{IsAnswerOf, made_by, set_accepts, set_opens, set_answer, set_names}
+use Rattle.jj_program.specs.Matching.{made_by}
+use Rattle.jj_program.specs.Walked.{spec_of}
+use Rattle.jj_program.proofs.SetVisits.{visited}
 use Rattle.jj_program.proofs.file_set.matcher.SetMatcherMatcher.visit.Goals as goal
 
 pub returns : goal.returns
 returns c =
-    let set = made_by c.args.self.now.parts.items in
+    let set = made_by c.args.self.now.code.items in
+    let spec = spec_of set in
     let dir = path_of c.args.dir in
-    let result = c.visit_parts.result in
-    let weaker = IfOk-weaker result (λ visit. IsAnswerOf dir (made_by c.deref.result.now) (visit_spec visit)) in
+    let result = c.visit_by.result in
+    let is : (visit : Visit) → visit_spec visit ≡ (spec_of (made_by c.deref.result.now)).visits dir → visit_spec visit ≡ spec.visits dir = λ visit h. h ∙ ap (λ l. (spec_of (made_by l)).visits dir) c.deref.ensures.value in
+    let weaker = IfOk-weaker result (λ visit. visit_spec visit ≡ (spec_of (made_by c.deref.result.now)).visits dir) in
     record {
-      visit = weaker (λ visit. visit_spec visit ≡ set_answer set dir) (λ visit h. (subst (λ l. IsAnswerOf dir (made_by l) (visit_spec visit)) c.deref.ensures.value h).same) c.visit_parts.ensures;
-      sound = weaker (λ visit. IsSound (set_accepts set) (set_opens set) dir (visit_spec visit)) (λ visit h. (subst (λ l. IsAnswerOf dir (made_by l) (visit_spec visit)) c.deref.ensures.value h).sound) c.visit_parts.ensures;
-      names = weaker (λ visit. MentionsOnly (set_names set) (visit_spec visit)) (λ visit h. (subst (λ l. IsAnswerOf dir (made_by l) (visit_spec visit)) c.deref.ensures.value h).chosen) c.visit_parts.ensures;
+      visit = weaker (λ visit. visit_spec visit ≡ spec.visits dir) is c.visit_by.ensures;
+      sound = weaker (λ visit. IsSound spec.accepts spec.opens dir (visit_spec visit)) (λ visit h. subst (IsSound spec.accepts spec.opens dir) (sym (is visit h)) (visited dir set).0) c.visit_by.ensures;
+      names = weaker (λ visit. MentionsOnly spec.names (visit_spec visit)) (λ visit h. subst (MentionsOnly spec.names) (sym (is visit h)) (visited dir set).1) c.visit_by.ensures;
     }

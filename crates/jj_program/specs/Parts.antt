@@ -1,0 +1,34 @@
+-- Nodes with parts of one array: a list of some in ascending order, and a map of the others.
+-- Machinery of private functions and fields.
+use Rattle.std.specs.Prelude.{◌≡◌, ◌==◌, ◌<◌, ◌≤◌, ℕ, List, Option, Some, All}
+use Rattle.std.specs.BTreeMap.{BTreeMap, get}
+use Rattle.std.specs.List.{AllPairs}
+use Rattle.std.specs.Map.{lookup}
+use Rattle.std.specs.Option.{option_or}
+use Rattle.std.specs.Ordering.{nat_cmp}
+
+-- a node, and where its part starts and ends
+abbrev pub Entry : Type 0
+Entry = ℕ × (ℕ × ℕ)
+
+abbrev pub IsAscending : List Entry → Type 0
+IsAscending entries = AllPairs (λ e f. e.0 < f.0) entries
+
+-- the id is above those of all entries
+abbrev pub AreBelow : List Entry → ℕ → Type 0
+AreBelow entries id = All (λ e. e.0 < id) entries
+
+-- no id of the map is above those of all entries
+abbrev pub NoneAbove : List Entry → BTreeMap ℕ (ℕ × ℕ) → Type 0
+NoneAbove entries others = (id : ℕ) (part : ℕ × ℕ) → get nat_cmp others id ≡ Some part
+    → AreBelow entries id → ⊥
+
+-- the part of an id
+abbrev pub part_in : List Entry → BTreeMap ℕ (ℕ × ℕ) → ℕ → Option (ℕ × ℕ)
+part_in entries others id = option_or (lookup (λ other. other == id) entries)
+    (get nat_cmp others id)
+
+-- each part starts before it ends, and ends within an array of this length
+abbrev pub AreParts : (ℕ → Option (ℕ × ℕ)) → ℕ → Type 0
+AreParts part_of n = (id : ℕ) (part : ℕ × ℕ) → part_of id ≡ Some part
+    → (part.0 ≤ part.1) × (part.1 ≤ n)
