@@ -1,0 +1,10 @@
+mod Derived
+mod Parsed
+mod Trees
+mod Unique
+mod Selecting
+mod Strings
+mod Evaluated
+mod Lexed
+mod Compiled
+mod PatternTexts

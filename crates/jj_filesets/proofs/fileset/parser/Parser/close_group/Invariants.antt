@@ -1,0 +1,11 @@
+use Rattle.std.proofs.Common.{◌≡◌, length, reverse}
+use Rattle.jj_filesets.specs.Parsing.{unwound}
+use Rattle.jj_filesets.proofs.fileset.parser.Parser.close_group.Given as goal
+
+abbrev pub invariant-loop-pending : goal.invariant-loop-pending
+invariant-loop-pending l =
+    unwound (reverse l.self.pending.items) l.self.program.items
+    ≡ unwound (reverse l.fn.self.pending.items) l.fn.self.program.items
+
+abbrev pub decreases-loop-pending : goal.decreases-loop-pending
+decreases-loop-pending l = length l.self.pending.items

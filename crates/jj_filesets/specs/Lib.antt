@@ -1,0 +1,10 @@
+pub mod Patterns
+pub mod SyntaxTrees
+pub mod Strings
+pub mod Operands
+pub mod Tokens
+pub mod Grammar
+pub mod Programs
+pub mod Parsing
+pub mod Expressions
+pub mod Selection

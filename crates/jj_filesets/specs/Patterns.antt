@@ -1,0 +1,15 @@
+-- The paths that a pattern matches.
+-- Cited by contracts of public items: Matches.
+use Rattle.std.specs.Prelude.{◌≡◌}
+use Rattle.jj_paths.specs.Paths.{Path, IsBelow, path_string}
+use Rattle.jj_globs.specs.GlobMeaning.{IsMatch, IsPrefixMatch}
+use Rattle.jj_filesets.specs.declared.fileset.pattern.FilePattern.{FilePattern}
+use Rattle.jj_filesets.specs.declared.fileset.pattern.FilePattern.TheVariants.{All, Nothing, PrefixPath, FilePath, FileGlob, PrefixGlob}
+
+abbrev pub Matches : FilePattern → Path → Type 0
+Matches All path = Unit {0}
+Matches Nothing path = ⊥
+Matches (PrefixPath base) path = IsBelow path base
+Matches (FilePath file) path = path ≡ file
+Matches (FileGlob glob) path = IsMatch glob (path_string path)
+Matches (PrefixGlob glob) path = IsPrefixMatch glob (path_string path)
