@@ -1,0 +1,12 @@
+mod Lists
+mod Walks
+mod Reaching
+mod Adding
+mod NearTargets
+mod NodeOrders
+mod GroupedLogs
+mod GroupedRuns
+mod VisibleItems
+mod Settling
+mod DrawnRows
+mod Interning

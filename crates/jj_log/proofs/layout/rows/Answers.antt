@@ -1,0 +1,31 @@
+use Rattle.std.proofs.Common.{rules, ◌≡◌, ◌∙◌, ◌++◌, ◌∷◌, [], map, ap, sym, subst}
+use Rattle.std.proofs.lemmas.List.{map-append}
+use Rattle.jj_walks.specs.PendingNodes.{listed_item}
+use Rattle.jj_log.specs.Columns.{AreRows, node_of_row}
+use Rattle.jj_log.proofs.Settling.{more_rows}
+use Rattle.jj_log.proofs.Walks.{vec_drained}
+use Rattle.jj_log.proofs.layout.rows.Goals as goal
+
+pub loop-node-init : goal.loop-node-init
+loop-node-init c = record {
+  can = search rules;
+  finite = search rules;
+  nodes = ap (map node_of_row) c.new-rows.ensures.items;
+  columns = subst (λ r. AreRows [] r c.new-columns.result.items) (sym c.new-rows.ensures.items) (sym c.new-columns.ensures.items);
+}
+
+pub loop-node-preserved : goal.loop-node-preserved
+loop-node-preserved c = record {
+  can = search rules;
+  finite = search rules;
+  nodes = ap (map node_of_row) c.in_ok-push.ensures.items ∙ map-append node_of_row c.loop-node.rows.items (c.in_ok-row.row ∷ []) ∙ ap (λ l. l ++ node_of_row c.in_ok-row.row ∷ []) c.loop-node.invariant.nodes ∙ ap (λ p. map listed_item c.loop-node.yielded ++ p ∷ []) c.in_ok-row.ensures.node ∙ sym (map-append listed_item c.loop-node.yielded ((c.in-Some.node, c.in-Some.edges) ∷ []));
+  columns = subst (λ r. AreRows [] r c.lay_out.new.columns.items) (sym c.in_ok-push.ensures.items) (more_rows [] c.loop-node.rows.items c.in_ok-row.row c.loop-node.columns.items c.lay_out.new.columns.items c.loop-node.invariant.columns c.in_ok-row.ensures.row);
+}
+
+pub returns-clause-nodes : goal.returns-clause-nodes
+returns-clause-nodes c =
+    let all = vec_drained c.args.nodes c.loop-node.yielded (c.into_iter-node-iterator.result, (search rules, search rules), (c.next.new.self, (c.loop-node.node-iterator, c.loop-node.yielded_by, c.in-None.ensures.steps))) in
+    subst (λ l. map node_of_row c.loop-node.rows.items ≡ map listed_item l) all c.loop-node.invariant.nodes
+
+pub returns-clause-columns : goal.returns-clause-columns
+returns-clause-columns c = (c.loop-node.columns.items, c.loop-node.invariant.columns)

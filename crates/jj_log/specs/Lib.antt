@@ -1,0 +1,13 @@
+pub mod Numbers
+pub mod Edges
+pub mod Logs
+pub mod Failures
+pub mod Columns
+pub mod Labels
+pub mod Drawing
+pub mod Orders
+pub mod Targets
+pub mod LogItems
+pub mod OkNumbers
+pub mod Numbering
+pub mod LogDrawings

@@ -1,0 +1,109 @@
+//! Error types of the log.
+ghost use Rattle.std.specs.Prelude.{◌≡◌};
+ghost use Rattle.jj_log.specs.declared.fault.Fault.{Fault};
+ghost use Rattle.jj_log.specs.declared.fault.LogError.{LogError};
+
+use itoa::Buffer;
+use std::alloc::{AllocError, AllocFailed};
+use std::error::Error;
+use std::fmt;
+
+/// An error in a line of the input.
+#[derive(Clone, Copy, Debug, PartialEq, Eq)]
+pub enum LineFault {
+    /// The line has no TAB.
+    MissingParents,
+    /// The name is empty or has a blank.
+    BadName,
+    /// An earlier line has the name.
+    RepeatedName,
+    /// The commit is among its own ancestors, or one of its ancestors is.
+    Cycle,
+}
+
+/// An error of a list of commits. A number is the index of a commit.
+#[derive(Clone, Copy, Debug, PartialEq, Eq)]
+pub enum LogError {
+    /// Memory ran out.
+    Memory,
+    /// A later commit has the name of this one.
+    RepeatedName(usize),
+    /// This commit is its own ancestor.
+    Cycle(usize),
+}
+
+/// An error of a run of the program.
+#[derive(Clone, Copy, Debug, PartialEq, Eq)]
+pub enum Fault {
+    ReadInput,
+    NotUtf8,
+    Memory,
+    WriteOutput,
+    Line { line: usize, kind: LineFault },
+}
+
+impl LineFault {
+    fn as_str(self) -> &'static str {
+        match self {
+            LineFault::MissingParents => "no TAB after the name",
+            LineFault::BadName => "bad name",
+            LineFault::RepeatedName => "repeated name",
+            LineFault::Cycle => "cycle of parents",
+        }
+    }
+}
+
+impl Fault {
+    // The message as four parts to be concatenated; a number is formatted into `digits`.
+    pub(crate) fn as_parts(self, digits: &mut Buffer) -> (&str, &str, &str, &str) {
+        match self {
+            Fault::ReadInput => ("cannot read input", "", "", ""),
+            Fault::NotUtf8 => ("input is not UTF-8", "", "", ""),
+            Fault::Memory => ("out of memory", "", "", ""),
+            Fault::WriteOutput => ("cannot write output", "", "", ""),
+            Fault::Line { line, kind } => ("line ", digits.format(line), ": ", kind.as_str()),
+        }
+    }
+}
+
+impl fmt::Display for Fault {
+    fn fmt<W: fmt::Write>(&self, f: &mut fmt::Formatter<W>) -> fmt::Result {
+        let mut digits = Buffer::new();
+        let (first, second, third, fourth) = self.as_parts(&mut digits);
+        write!(f, "{first}{second}{third}{fourth}")
+    }
+}
+
+impl Error for Fault {}
+
+impl From<AllocError> for Fault {
+    ghost from_gives = { λ _ error. error ≡ Fault.Memory };
+
+    fn from(_refused: AllocError) -> Self {
+        Fault::Memory
+    }
+}
+
+impl<T: Drop> From<AllocFailed<T>> for Fault {
+    ghost from_gives = { λ _ error. error ≡ Fault.Memory };
+
+    fn from(_refused: AllocFailed<T>) -> Self {
+        Fault::Memory
+    }
+}
+
+impl From<AllocError> for LogError {
+    ghost from_gives = { λ _ error. error ≡ LogError.Memory };
+
+    fn from(_refused: AllocError) -> Self {
+        LogError::Memory
+    }
+}
+
+impl<T: Drop> From<AllocFailed<T>> for LogError {
+    ghost from_gives = { λ _ error. error ≡ LogError.Memory };
+
+    fn from(_refused: AllocFailed<T>) -> Self {
+        LogError::Memory
+    }
+}

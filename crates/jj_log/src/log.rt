@@ -1,0 +1,66 @@
+//! The log of a list of commits.
+ghost use Rattle.std.specs.Prelude.{◌≡◌, [], ℕ, List, map, IfOk, IfErr, string_bytes};
+ghost use Rattle.jj_log.specs.Columns.{AreRows, node_of_row};
+ghost use Rattle.jj_log.specs.Drawing.{AreDrawn};
+ghost use Rattle.jj_log.specs.Failures.{IsOrderError};
+ghost use Rattle.jj_log.specs.LogDrawings.{IsDrawing, IsLogError};
+ghost use Rattle.jj_log.specs.Logs.{IsLog};
+ghost use Rattle.jj_log.specs.Labels.{label_of};
+ghost use Rattle.jj_log.specs.declared.layout.Row.{Row};
+
+use crate::commits::{Commit, NumberedCommit};
+use crate::drawing::push_row;
+use crate::fault::LogError;
+use crate::grouping::log_nodes;
+use crate::layout::{Row, rows};
+use crate::numbering::number_commits;
+use std::alloc::{AllocError, Global};
+
+/// Returns the log of these commits in rows: each visible commit once, with its edges, and before
+/// its ancestors. Branches are together, and the last commit of the list comes first where there is
+/// a choice. Fails with `Cycle` of a commit on a cycle of parents, and with `Memory` if memory runs
+/// out.
+pub fn log_rows(alloc: Global, commits: &[NumberedCommit]) -> Result<Vec<Row>, LogError>
+    ensures log { IfOk result (λ rows. IsLog commits.now (map node_of_row rows.items)) }
+    ensures columns { IfOk result (λ rows. (last : List ℕ) × AreRows [] rows.items last) }
+    ensures error { IfErr result (IsOrderError commits.now) }
+{
+    let nodes = log_nodes(alloc, commits)?;
+    Ok(rows(alloc, nodes)?)
+}
+
+fn label_at(commits: &[Commit], number: usize) -> &str
+    ensures { result.now ≡ label_of commits.now number }
+{
+    match commits.get(number) {
+        Some(commit) => match &commit.label {
+            Some(label) => label.as_str(),
+            None => "",
+        },
+        None => "",
+    }
+}
+
+/// Draws rows, with the labels of these commits. Fails if memory runs out.
+pub fn draw_rows(alloc: Global, rows: &[Row], commits: &[Commit]) -> Result<String, AllocError>
+    ensures { IfOk result (λ drawing.
+        AreDrawn (label_of commits.now) rows.now (string_bytes drawing)) }
+{
+    let mut drawing = String::new(alloc);
+    for row in rows {
+        push_row(&mut drawing, row, label_at(commits, row.node))?;
+    }
+    Ok(drawing)
+}
+
+/// Draws the log of these commits. Fails with `RepeatedName` of an earlier commit if two commits
+/// have one name, with `Cycle` of a commit on a cycle of parents, and with `Memory` if memory runs
+/// out.
+pub fn draw_log(alloc: Global, commits: &[Commit]) -> Result<String, LogError>
+    ensures drawing { IfOk result (λ drawing. IsDrawing commits.now (string_bytes drawing)) }
+    ensures error { IfErr result (IsLogError commits.now) }
+{
+    let numbered = number_commits(alloc, commits)?;
+    let rows = log_rows(alloc, &numbered)?;
+    Ok(draw_rows(alloc, &rows, commits)?)
+}
