@@ -1,0 +1,12 @@
+pub mod ContentAt
+pub mod IntegerBytes
+pub mod Variants
+pub mod ListItems
+pub mod StringBytes
+pub mod RoundTrips
+pub mod AscendingItems
+pub mod MovedEntries
+pub mod ValidStrings
+pub mod MergeLists
+pub mod TreeEntries
+pub mod RefStates

@@ -1,0 +1,11 @@
+pub mod Decoding
+pub mod Contents
+pub mod NonemptyProofs
+pub mod ContentsProofs
+pub mod HashTableProofs
+pub mod PathContents
+pub mod MergeContents
+pub mod RecordContents
+pub mod TreeContents
+pub mod ViewContents
+pub mod OperationContents
