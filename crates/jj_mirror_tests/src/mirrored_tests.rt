@@ -1,0 +1,174 @@
+//! Tests of a backend beside a log: the logged entries by value, and a log that fails.
+use crate::callers::written_commit;
+use jj_backend::backend::{
+    Backend, BackendError, BackendResult, ChangeId, Commit, NoSigner, SigningFn, Tree,
+    make_root_commit,
+};
+use jj_backend::signing::SignResult;
+use jj_content::content_hash::{blake2b_hash, content_of};
+use jj_content_tests::retry::holds;
+use jj_files::file_util::{SourceError, SourceKind};
+use jj_ids::object_id::ObjectId;
+use jj_mirror::memory_log::MemoryLog;
+use jj_mirror::mirrored::Mirrored;
+use jj_mirror::object_log::{LogEntry, ObjectKind, ObjectLog};
+use jj_paths::repo_path::RepoPath;
+use jj_trees::memory_backend::MemoryBackend;
+use std::alloc::Global;
+
+// A log that fails after a number of entries.
+#[derive(Drop)]
+struct FullLog {
+    entries: MemoryLog,
+    capacity: usize,
+}
+
+impl ObjectLog for FullLog {
+    ghost use Rattle.std.specs.Prelude.{◌≡◌, ⊤};
+
+    ghost contains = { λ log entries. log.entries ≡ entries };
+
+    ghost may_fail = { λ _ entry e. ⊤ };
+
+    fn append(
+        &mut self,
+        alloc: Global,
+        kind: ObjectKind,
+        id: &[u8],
+        bytes: &[u8],
+    ) -> BackendResult<()> {
+        if self.entries.entries().len() >= self.capacity {
+            return Err(BackendError::Other(SourceError {
+                kind: SourceKind::Io,
+                message: String::from_str(alloc, "disk full")?,
+            }));
+        }
+        self.entries.append(alloc, kind, id, bytes)
+    }
+}
+
+fn is_disk_full(error: &BackendError) -> bool {
+    match error {
+        BackendError::Other(source) => source.message.as_str() == "disk full",
+        _ => false,
+    }
+}
+
+// Signs with the bytes "sig".
+#[derive(Drop)]
+struct FixedSigner;
+
+impl SigningFn for FixedSigner {
+    ghost use Rattle.std.specs.Prelude.{⊤};
+
+    ghost may_sign = { λ _ _ _. ⊤ };
+
+    fn sign(&mut self, alloc: Global, _data: &[u8]) -> SignResult<Vec<u8>> {
+        Ok(Vec::from_slice(alloc, b"sig")?)
+    }
+}
+
+fn new_store(alloc: Global) -> BackendResult<Mirrored<MemoryBackend, MemoryLog>> {
+    Ok(Mirrored::new(MemoryBackend::new(alloc)?, MemoryLog::new(alloc)))
+}
+
+// A child of the root commit.
+fn child_of_root<B: Backend>(alloc: Global, store: &B) -> BackendResult<Commit> {
+    let change = ChangeId::from_bytes(alloc, &[7; 16])?;
+    let mut commit = make_root_commit(alloc, change, store.empty_tree_id().clone()?);
+    commit.parents.push(store.root_commit_id().clone()?)?;
+    commit.description = String::from_str(alloc, "first")?;
+    Ok(commit)
+}
+
+fn is_entry(entry: &LogEntry, kind: ObjectKind, id: &[u8], bytes: &[u8]) -> bool {
+    entry.kind == kind && entry.id.as_slice() == id && entry.bytes.as_slice() == bytes
+}
+
+// A file, a link and a tree: the entries have the ids of the objects and their bytes.
+fn logs_objects(alloc: Global) -> BackendResult<bool> {
+    let mut store = new_store(alloc)?;
+    let file = store.write_file(alloc, RepoPath::root(), b"abc")?;
+    let link = store.write_symlink(alloc, RepoPath::root(), "to")?;
+    let tree = Tree::default(alloc);
+    let tree_id = store.write_tree(alloc, RepoPath::root(), &tree)?;
+    let content = content_of(alloc, &tree)?;
+    let is_logged = match store.log().entries() {
+        [first, second, third] => {
+            is_entry(first, ObjectKind::File, file.as_bytes(), b"abc")
+                && is_entry(second, ObjectKind::Symlink, link.as_bytes(), b"to")
+                && is_entry(third, ObjectKind::Tree, tree_id.as_bytes(), &content)
+        }
+        _ => false,
+    };
+    let is_read = store.read_file(alloc, RepoPath::root(), &file)?.as_slice() == b"abc".as_slice();
+    Ok(is_logged && is_read)
+}
+
+// The stored form of a signed commit is logged, with its digest as the id.
+fn logs_signed_commit(alloc: Global) -> BackendResult<bool> {
+    let mut store = new_store(alloc)?;
+    let commit = child_of_root(alloc, &store)?;
+    let (id, stored) = store.write_commit(alloc, commit, Some(&mut FixedSigner))?;
+    let content = content_of(alloc, &stored)?;
+    let digest = blake2b_hash(alloc, &stored)?;
+    let is_logged = match store.log().entries() {
+        [entry] => is_entry(entry, ObjectKind::Commit, &digest, &content),
+        _ => false,
+    };
+    Ok(is_logged && stored.secure_sig.is_some() && id.as_bytes() == digest.as_slice())
+}
+
+fn writes_and_reads_commit(alloc: Global) -> BackendResult<bool> {
+    let mut store = new_store(alloc)?;
+    let commit = child_of_root(alloc, &store)?;
+    let expected = commit.clone()?;
+    Ok(written_commit(alloc, &mut store, commit)? == expected)
+}
+
+// Nothing is logged for a commit without parents.
+fn refuses_parentless_commit(alloc: Global) -> BackendResult<bool> {
+    let mut store = new_store(alloc)?;
+    let mut commit = child_of_root(alloc, &store)?;
+    commit.parents.clear();
+    match store.write_commit(alloc, commit, None::<&mut NoSigner>) {
+        Err(BackendError::Other(_)) => Ok(store.log().entries().is_empty()),
+        Err(error) => Err(error),
+        Ok(_) => Ok(false),
+    }
+}
+
+// A failed log fails the write with its error, and the object is not stored.
+fn fails_with_log(alloc: Global) -> BackendResult<bool> {
+    let log = FullLog {
+        entries: MemoryLog::new(alloc),
+        capacity: 1,
+    };
+    let mut store = Mirrored::new(MemoryBackend::new(alloc)?, log);
+    let first = store.write_file(alloc, RepoPath::root(), b"1")?;
+    let failed = match store.write_file(alloc, RepoPath::root(), b"2") {
+        Err(error) => is_disk_full(&error),
+        Ok(_) => false,
+    };
+    let mut other = MemoryBackend::new(alloc)?;
+    let second = other.write_file(alloc, RepoPath::root(), b"2")?;
+    let is_absent = match store.read_file(alloc, RepoPath::root(), &second) {
+        Err(BackendError::ObjectNotFound { .. }) => true,
+        _ => false,
+    };
+    let is_read = store.read_file(alloc, RepoPath::root(), &first)?.as_slice() == b"1".as_slice();
+    Ok(failed && is_absent && is_read && store.log().entries.entries().len() == 1)
+}
+
+#[test]
+fn objects_are_logged(rt: HostRuntime) {
+    assert!(rt; holds(&rt, logs_objects));
+    assert!(rt; holds(&rt, logs_signed_commit));
+    assert!(rt; holds(&rt, writes_and_reads_commit));
+}
+
+#[test]
+fn failed_writes_store_nothing(rt: HostRuntime) {
+    assert!(rt; holds(&rt, refuses_parentless_commit));
+    assert!(rt; holds(&rt, fails_with_log));
+}

@@ -1,0 +1,58 @@
+//! Errors of opening a backend.
+use jj_mirror::object_log::ObjectKind;
+use sqlite::ErrorCode;
+use std::alloc::{AllocError, AllocFailed};
+use thiserror::Error;
+
+/// An error of opening a backend that is stored in SQLite. An `id` is that of the log's entry.
+#[derive(Debug, Drop, Error)]
+pub enum OpenError {
+    #[error("out of memory")]
+    Memory,
+    /// SQLite cannot open the file, or it cannot read or create the table of the log.
+    #[error("{0}")]
+    Sqlite(sqlite::Error),
+    /// An entry whose id is not the digest of its object.
+    #[error("an object of the log is not the one that its id names")]
+    WrongObject { kind: ObjectKind, id: Vec<u8> },
+    /// An entry whose kind is unknown.
+    #[error("the log has an object of an unknown kind")]
+    UnknownKind { id: Vec<u8> },
+}
+
+impl From<AllocError> for OpenError {
+    ghost use Rattle.std.specs.Prelude.{◌≡◌};
+    ghost use Rattle.jj_sqlite.specs.declared.error.OpenError.TheVariants.{Memory};
+
+    ghost from_gives = { λ _ error. error ≡ Memory };
+
+    fn from(_failure: AllocError) -> Self {
+        OpenError::Memory
+    }
+}
+
+impl<T: Drop> From<AllocFailed<T>> for OpenError {
+    ghost use Rattle.std.specs.Prelude.{◌≡◌};
+    ghost use Rattle.jj_sqlite.specs.declared.error.OpenError.TheVariants.{Memory};
+
+    ghost from_gives = { λ _ error. error ≡ Memory };
+
+    fn from(_failure: AllocFailed<T>) -> Self {
+        OpenError::Memory
+    }
+}
+
+impl From<sqlite::Error> for OpenError {
+    ghost use Rattle.std.specs.Prelude.{◌≡◌, ◌⊎◌};
+    ghost use Rattle.jj_sqlite.specs.declared.error.OpenError.TheVariants.{Memory, Sqlite};
+
+    ghost from_gives = { λ cause error. (error ≡ Memory) ⊎ (error ≡ Sqlite cause) };
+
+    fn from(error: sqlite::Error) -> Self {
+        if error == sqlite::Error::SqliteFailure(ErrorCode::OutOfMemory) {
+            OpenError::Memory
+        } else {
+            OpenError::Sqlite(error)
+        }
+    }
+}

@@ -1,0 +1,5 @@
+//! A backend that keeps its objects in an SQLite database.
+#![tactic(auto)]
+
+pub mod error;
+pub mod sqlite_log;

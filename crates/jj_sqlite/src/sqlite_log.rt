@@ -1,0 +1,158 @@
+//! A log of written objects in a table of an SQLite database.
+ghost use Rattle.std.specs.Prelude.{◌≡◌, ◌⊎◌, [], List, IfOk, IfErr};
+ghost use Rattle.std.specs.List.{AllZip};
+ghost use Rattle.sqlite.specs.Held.{state};
+ghost use Rattle.sqlite.specs.Order.{Row};
+ghost use Rattle.sqlite.specs.State.{HasCleanDisk, Executes, FailsToQuery, Shown};
+ghost use Rattle.jj_trees.specs.MemoryErrors.{IsOtherOf};
+ghost use Rattle.jj_mirror.specs.Logs.{Appends, Keeps};
+ghost use Rattle.jj_sqlite.specs.Inserts.{HasInserted, MayFailToInsert, entry_row, insert_statement};
+ghost use Rattle.jj_sqlite.specs.Rows.{IsEntryRow, IsGoodRow, IsRowError, IsReadError};
+ghost use Rattle.jj_sqlite.specs.Rows.{select_statement};
+
+use crate::error::OpenError;
+use jj_backend::backend::{BackendError, BackendResult};
+use jj_files::file_util::{SourceError, SourceKind};
+use jj_mirror::object_log::{LogEntry, ObjectKind, ObjectLog};
+use sqlite::{Alter, Connection, Error, ErrorCode, Row, params};
+use std::alloc::Global;
+
+/// A log in the table `object_log` of a database: a row for each entry, in the order of `seq`.
+#[derive(Drop)]
+pub struct SqliteLog<S: Alter + Drop> {
+    conn: Connection<S>,
+}
+
+impl<S: Alter + Drop> SqliteLog<S> {
+    /// Opens the log of a database, and creates its table if there is none.
+    pub fn over(mut conn: Connection<S>) -> Result<Self, OpenError> {
+        create_table(&mut conn)?;
+        Ok(SqliteLog { conn })
+    }
+
+    /// Reads the entries, the oldest first. Fails with `WrongObject` at the first entry whose id is
+    /// not the digest of its object.
+    pub fn read_entries(&mut self, alloc: Global) -> Result<Vec<LogEntry>, OpenError>
+        ensures { HasCleanDisk (state S.Store self.new.conn) → IfOk result (λ entries.
+            (rows : List Row) × AllZip IsGoodRow rows entries.items
+            × Shown select_statement [] (state S.Store self.old.conn) (state S.Store self.new.conn)
+            rows) }
+    {
+        let rows = select_rows(&mut self.conn)?;
+        entries_from_rows(alloc, &rows)
+    }
+
+    /// Closes the log and returns its connection.
+    pub fn into_connection(self) -> Connection<S> {
+        let SqliteLog { conn } = self;
+        conn
+    }
+}
+
+fn create_table<S: Alter>(conn: &mut Connection<S>) -> Result<(), Error> {
+    conn.execute(
+        "CREATE TABLE IF NOT EXISTS object_log (seq INTEGER PRIMARY KEY, kind TEXT NOT NULL, id BLOB NOT NULL, bytes BLOB NOT NULL) STRICT",
+        &[],
+    )?;
+    Ok(())
+}
+
+fn select_rows<S: Alter>(conn: &mut Connection<S>) -> Result<Vec<Row>, Error>
+    ensures { HasCleanDisk (state S.Store conn.new) → IfOk result (λ rows. Shown select_statement []
+        (state S.Store conn.old) (state S.Store conn.new) rows.items) }
+{
+    conn.query_all("SELECT kind, id, bytes FROM object_log ORDER BY seq", &[])
+}
+
+// Returns the entry of a row.
+#[tactic(auto, using(crate::proofs::RowErrors::converted))]
+fn entry_from_row(row: &Row) -> Result<LogEntry, OpenError>
+    ensures ok { IfOk result (IsEntryRow row.now) }
+    ensures wrong { IfErr result (IsRowError row.now) }
+{
+    let name: String = row.get(0)?;
+    let id: Vec<u8> = row.get(1)?;
+    let bytes: Vec<u8> = row.get(2)?;
+    match ObjectKind::from_name(name.as_str()) {
+        Some(kind) => Ok(LogEntry { kind, id, bytes }),
+        None => Err(OpenError::UnknownKind { id }),
+    }
+}
+
+// Returns the entry of a row, whose id has to be the digest of its object.
+fn checked_entry(row: &Row) -> Result<LogEntry, OpenError>
+    ensures ok { IfOk result (IsGoodRow row.now) }
+    ensures wrong { IfErr result (IsRowError row.now) }
+{
+    let entry = entry_from_row(row)?;
+    if entry.has_digest() {
+        Ok(entry)
+    } else {
+        let LogEntry { kind, id, bytes: _ } = entry;
+        Err(OpenError::WrongObject { kind, id })
+    }
+}
+
+/// Returns the entries of the rows of a log. Fails with `WrongObject` at the first entry whose id
+/// is not the digest of its object.
+#[tactic(auto, using(crate::proofs::RowErrors::read_error))]
+pub fn entries_from_rows(alloc: Global, rows: &[Row]) -> Result<Vec<LogEntry>, OpenError>
+    ensures ok { IfOk result (λ entries. AllZip IsGoodRow rows.now entries.items) }
+    ensures wrong { IfErr result (IsReadError rows.now) }
+{
+    let mut entries = Vec::new(alloc);
+    for row in rows {
+        entries.push(checked_entry(row)?)?;
+    }
+    Ok(entries)
+}
+
+fn insert_entry<S: Alter>(
+    conn: &mut Connection<S>,
+    kind: ObjectKind,
+    id: &[u8],
+    bytes: &[u8],
+) -> Result<usize, Error>
+    ensures { HasCleanDisk (state S.Store conn.new) → Executes insert_statement
+        (entry_row (record { kind = kind; id = id.now; bytes = bytes.now }))
+        (state S.Store conn.old) (state S.Store conn.new) result }
+{
+    conn.execute(
+        "INSERT INTO object_log (kind, id, bytes) VALUES (?1, ?2, ?3)",
+        params![kind.name(), id, bytes],
+    )
+}
+
+fn convert_error(alloc: Global, error: Error) -> BackendError
+    ensures { (result ≡ BackendError.Memory) ⊎ IsOtherOf SourceKind.Io result }
+{
+    if error == Error::SqliteFailure(ErrorCode::OutOfMemory) {
+        return BackendError::Memory;
+    }
+    match format!(in alloc; "{error}") {
+        Ok(message) => BackendError::Other(SourceError {
+            kind: SourceKind::Io,
+            message,
+        }),
+        Err(_) => BackendError::Memory,
+    }
+}
+
+impl<S: Alter + Drop> ObjectLog for SqliteLog<S> {
+    ghost contains = { λ log entries. HasInserted S.Store entries log.conn };
+
+    ghost may_fail = { λ log. MayFailToInsert S.Store log.conn };
+
+    fn append(
+        &mut self,
+        alloc: Global,
+        kind: ObjectKind,
+        id: &[u8],
+        bytes: &[u8],
+    ) -> BackendResult<()> {
+        match insert_entry(&mut self.conn, kind, id, bytes) {
+            Ok(_) => Ok(()),
+            Err(error) => Err(convert_error(alloc, error)),
+        }
+    }
+}
