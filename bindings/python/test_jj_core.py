@@ -1,0 +1,113 @@
+"""Tests of jj_core: digests against hashlib, rows of the conformance table, and errors. Run by bindings/check."""
+import hashlib
+import random
+import re
+import struct
+import threading
+import unittest
+from itertools import groupby
+from pathlib import Path
+
+import jj_core
+
+TABLE = Path(__file__).resolve().parents[2] / "crates/conformance/stdin"
+ESCAPES = {b"t": b"\t", b"n": b"\n", b"r": b"\r", b"\\": b"\\", b"e": b""}
+
+
+def unescape(field):
+    """The bytes of a field of the table."""
+    value = lambda found: bytes([int(found[1], 16)]) if found[1] else ESCAPES[found[2]]
+    return re.sub(rb"\\(?:x(..)|(.))", value, field)
+
+
+def rows(request):
+    """The arguments and the expected values of each row of a request."""
+    for line in TABLE.read_bytes().splitlines():
+        given, arrow, expected = line.partition(b"\t=>\t")
+        name, _, given = given.partition(b"\t")
+        if arrow and name == request.encode():
+            yield [unescape(it) for it in given.split(b"\t")], [unescape(it) for it in expected.split(b"\t")]
+
+
+def content(item):
+    return struct.pack("<Q", len(item)) + item
+
+
+class Test(unittest.TestCase):
+    def raises(self, status, call, *arguments):
+        with self.assertRaises(jj_core.JjError) as caught:
+            call(*arguments)
+        self.assertEqual(caught.exception.status, status)
+
+    def test_digests(self):
+        numbers = random.Random(1)
+        for length in [0, 1, 63, 64, 127, 128, 129, 1000]:
+            data = numbers.randbytes(length)
+            self.assertEqual(jj_core.hash(data), hashlib.blake2b(data).digest())
+            self.assertEqual(jj_core.content_hash(data), hashlib.blake2b(content(data)).digest())
+            items = [data[:length // 2], b"", data]
+            wanted = struct.pack("<Q", 3) + b"".join(map(content, items))
+            self.assertEqual(jj_core.content_hash_list(items), hashlib.blake2b(wanted).digest())
+
+    def test_hex(self):
+        self.assertEqual(jj_core.hex_encode(b"\x01\xef"), "01ef")
+        self.assertEqual(jj_core.hex_encode(b"\x01\xef", True), "zylk")
+        self.assertEqual(jj_core.hex_decode("ZYlk", True), b"\x01\xef")
+        self.raises("JJ_SYNTAX", jj_core.hex_decode, "0g")
+        self.raises("JJ_SYNTAX", jj_core.hex_decode, "0")
+        self.assertTrue(jj_core.hex_prefix_matches("01E", b"\x01\xef"))
+        self.assertFalse(jj_core.hex_prefix_matches("01d", b"\x01\xef"))
+
+    def test_globs(self):
+        for (separator, icase, glob, *paths), expected in rows("glob-match"):
+            self.assertEqual(jj_core.glob_matches(glob, paths, separator == b"1", icase == b"1"), [it == b"true" for it in expected])
+        self.raises("JJ_SYNTAX", jj_core.glob_matches, b"\xff", [])
+
+    def test_filesets(self):
+        paths = ["src/lib.rs", "tests/t.rs", "README.md"]
+        self.assertEqual(jj_core.fileset_matches("src | **/*.rs ~ tests", paths), [True, False, False])
+        self.assertEqual(jj_core.fileset_matches("~file:README.md", paths), [True, True, False])
+        self.raises("JJ_EXPRESSION", jj_core.fileset_matches, "src &", paths)
+        self.raises("JJ_PATH", jj_core.fileset_matches, "src", [b"\xff"])
+
+    def test_merges(self):
+        for terms, expected in rows("merge-simplify"):
+            self.assertEqual([terms[it] for it in jj_core.simplify(terms)], expected)
+        self.assertEqual(jj_core.resolve(["a", "b", "b"]), 0)
+        self.assertIsNone(jj_core.resolve(["a", "b", "a"]))
+        self.assertEqual(jj_core.resolve(["a", "b", "a"], True), 0)
+        self.raises("JJ_TERMS", jj_core.simplify, ["a", "b"])
+
+    def test_flattening(self):
+        for given, expected in rows("merge-flatten"):
+            merges = [list(merge) for bar, merge in groupby(given, lambda it: it == b"|") if not bar]
+            if expected[0].startswith(b"precondition"):
+                self.raises("JJ_TERMS", jj_core.flatten, merges)
+            else:
+                self.assertEqual(jj_core.flatten(merges), expected)
+        self.raises("JJ_TERMS", jj_core.flatten, ["a", "bc", "d"])
+
+    def test_graphs(self):
+        diamond = [[], [0], [0], [1, 2], [2, 1]]
+        self.assertEqual(jj_core.order(diamond, [3]), [3, 2, 1, 0])
+        self.assertEqual(jj_core.heads(diamond, [0, 1, 3]), [3])
+        self.assertEqual(jj_core.closest_common(diamond, [3], [4]), [1, 2])
+        self.raises("JJ_CYCLE", jj_core.heads, [[1], [0]], [0])
+        self.raises("JJ_NODE", jj_core.heads, [[1]], [0])
+
+    def test_threads(self):
+        found = [None] * 4
+
+        def work(index):
+            found[index] = [jj_core.glob_matches("*.rs", [f"{n}.rs", f"{n}.c"]) for n in range(200)]
+
+        threads = [threading.Thread(target=work, args=(it,)) for it in range(4)]
+        for it in threads:
+            it.start()
+        for it in threads:
+            it.join()
+        self.assertEqual(found, [[[True, False]] * 200] * 4)
+
+
+if __name__ == "__main__":
+    unittest.main()

@@ -1,0 +1,202 @@
+//! The rows of the conformance table of the libraries that apply to this crate.
+use jj_core_verified::{
+    closest_common, fileset_matches, flatten, glob_matches, hash, heads, hex_decode, hex_encode, hex_prefix_matches, order, resolve, simplify,
+    Error, Graph, Joined,
+};
+
+const TABLE: &str = include_str!("../../../crates/conformance/stdin");
+
+fn unescape(field: &str) -> Vec<u8> {
+    let (mut bytes, mut rest) = (Vec::new(), field.as_bytes());
+    while let Some((&byte, after)) = rest.split_first() {
+        rest = after;
+        if byte != b'\\' {
+            bytes.push(byte);
+            continue;
+        }
+        let (letter, after) = rest.split_first().expect("an escape");
+        rest = after;
+        match letter {
+            b't' => bytes.push(b'\t'),
+            b'n' => bytes.push(b'\n'),
+            b'r' => bytes.push(b'\r'),
+            b'\\' => bytes.push(b'\\'),
+            b'e' => {}
+            b'x' => {
+                bytes.push(u8::from_str_radix(std::str::from_utf8(&rest[..2]).unwrap(), 16).unwrap());
+                rest = &rest[2..];
+            }
+            other => panic!("the escape {other}"),
+        }
+    }
+    bytes
+}
+
+type Fields = Vec<Vec<u8>>;
+
+// The arguments and the expected values of each row of a request. Calls `check` for each, and compares their number with the least one.
+fn each_row(request: &str, least: usize, mut check: impl FnMut(&Fields, &Fields)) {
+    let fields = |part: &str| part.split('\t').map(unescape).collect::<Fields>();
+    let mut count = 0;
+    for line in TABLE.lines() {
+        let Some((arguments, expected)) = line.strip_prefix(request).and_then(|rest| rest.strip_prefix('\t')?.split_once("\t=>\t")) else {
+            continue;
+        };
+        check(&fields(arguments), &fields(expected));
+        count += 1;
+    }
+    assert!(count >= least, "{request}: {count} rows");
+}
+
+fn text(field: &[u8]) -> &str {
+    std::str::from_utf8(field).unwrap()
+}
+
+fn is_true(field: &[u8]) -> bool {
+    field == b"true"
+}
+
+#[test]
+fn digests() {
+    each_row("digest", 3, |given, expected| assert_eq!(hex_encode(&hash(&given[0]).unwrap(), false).unwrap().as_bytes(), expected[0]));
+}
+
+#[test]
+fn hex() {
+    each_row("hex-encode", 2, |given, expected| assert_eq!(hex_encode(&given[0], false).unwrap().as_bytes(), expected[0]));
+    for (request, reverse) in [("hex-decode", false), ("hex-decode-rev", true)] {
+        each_row(request, 4, |given, expected| {
+            let Ok(digits) = std::str::from_utf8(&given[0]) else { return };
+            let wanted = if expected[0] == b"some" { Ok(expected[1].clone()) } else { Err(Error::Syntax) };
+            assert_eq!(hex_decode(digits, reverse), wanted, "{digits}");
+        });
+    }
+    for (request, reverse) in [("prefix", false), ("prefix-rev", true)] {
+        each_row(request, 8, |given, expected| {
+            let found = hex_prefix_matches(text(&given[0]), reverse, &given[1]);
+            let wanted = if expected[0] == b"some" { Ok(is_true(expected.last().unwrap())) } else { Err(Error::Syntax) };
+            assert_eq!(found, wanted, "{given:?}");
+        });
+    }
+}
+
+#[test]
+fn globs() {
+    each_row("glob-match", 300, |given, expected| {
+        let found = glob_matches(text(&given[2]), given[0] == b"1", given[1] == b"1", &Joined::new(&given[3..])).unwrap();
+        assert_eq!(found, expected.iter().map(|it| is_true(it)).collect::<Vec<_>>(), "{given:?}");
+    });
+    each_row("glob-parse", 15, |given, expected| {
+        let found = glob_matches(text(&given[2]), given[0] == b"1", given[1] == b"1", &Joined::default());
+        let wanted = if expected[0] == b"ok" { Ok(vec![]) } else { Err(Error::Syntax) };
+        assert_eq!(found, wanted, "{given:?}");
+    });
+}
+
+#[test]
+fn filesets() {
+    let paths = Joined::new(&["src/lib.rs", "src/a/b.rs", "tests/t.rs", "README.md", "all", ""]);
+    for (expression, expected) in [
+        ("src/** & ~tests", [true, true, false, false, false, false]),
+        ("all() ~ src", [false, false, true, true, true, true]),
+        ("(tests | src) & **/*.rs ~ src/a", [true, false, true, false, false, false]),
+        ("file:src | file:'all'", [false, false, false, false, true, false]),
+    ] {
+        assert_eq!(fileset_matches(expression, &paths), Ok(expected.to_vec()), "{expression}");
+    }
+    for expression in ["", "src &", "(src", "src)", "some()", "a//b", "glob:'[a'"] {
+        assert_eq!(fileset_matches(expression, &paths), Err(Error::Expression), "{expression}");
+    }
+    assert_eq!(fileset_matches("src", &Joined::new(&["a//b"])), Err(Error::Path));
+}
+
+#[test]
+fn merges() {
+    each_row("merge-simplify", 60, |given, expected| {
+        let kept = simplify(&Joined::new(given)).unwrap();
+        assert_eq!(&kept.iter().map(|index| given[*index].clone()).collect::<Fields>(), expected, "{given:?}");
+    });
+    each_row("trivial", 60, |given, expected| {
+        let mut left = expected.as_slice();
+        for accept in [false, true] {
+            let found = resolve(&Joined::new(given), accept).unwrap().map(|index| given[index].clone());
+            let wanted = if left[0] == b"some" { Some(left[1].clone()) } else { None };
+            left = &left[if wanted.is_some() { 2 } else { 1 }..];
+            assert_eq!(found, wanted, "{given:?}");
+        }
+    });
+}
+
+#[test]
+fn flattening() {
+    each_row("merge-flatten", 5, |given, expected| {
+        let merges: Vec<Fields> = given.split(|field| field == b"|").map(<[_]>::to_vec).collect();
+        let wanted = if expected[0].starts_with(b"precondition") { Err(Error::Terms) } else { Ok(expected.iter().collect()) };
+        assert_eq!(flatten(&merges), wanted, "{given:?}");
+    });
+    assert_eq!(flatten(&[vec!['a'], vec!['b', 'c'], vec!['d']]), Err(Error::Terms));
+}
+
+// A graph of letters, `B:A` for an edge from B to A, and whether each of its items succeeds.
+fn graph(text: &str) -> Option<Graph> {
+    let mut lists = vec![Vec::new(); 128];
+    for entry in text.split(' ').filter(|it| !it.is_empty()) {
+        let (node, targets) = entry.split_once(':')?;
+        lists[usize::from(node.as_bytes()[0])] = nodes(targets)?;
+    }
+    Some(Graph::new(&lists))
+}
+
+fn nodes(text: &str) -> Option<Vec<usize>> {
+    (!text.contains('!')).then(|| text.bytes().map(usize::from).collect())
+}
+
+fn letters(nodes: &[usize]) -> Vec<u8> {
+    nodes.iter().map(|node| *node as u8).collect()
+}
+
+#[test]
+fn graphs() {
+    let mut checked = [0; 3];
+    let mut check = |which: usize, found: Result<Vec<usize>, Error>, expected: &Fields| {
+        checked[which] += 1;
+        match found {
+            Ok(nodes) => assert_eq!((&b"ok".to_vec(), &letters(&nodes)), (&expected[0], &expected[1])),
+            // The calls look for a cycle anywhere, and the rows for one that is reached.
+            Err(error) => assert_eq!(error, Error::Cycle),
+        }
+    };
+    each_row("greatest", 15, |given, expected| {
+        if let (Some(starts), Some(graph)) = (nodes(text(&given[0])), graph(text(&given[1]))) {
+            check(0, order(&graph, &starts), expected);
+        }
+    });
+    each_row("heads", 5, |given, expected| {
+        if let (Some(starts), Some(graph)) = (nodes(text(&given[0])), graph(text(&given[1]))) {
+            check(1, heads(&graph, &starts), expected);
+        }
+    });
+    each_row("closest-common", 20, |given, expected| {
+        if let (Some(set1), Some(set2), Some(graph)) = (nodes(text(&given[0])), nodes(text(&given[1])), graph(text(&given[2]))) {
+            check(2, closest_common(&graph, &set1, &set2), expected);
+        }
+    });
+    assert!(checked[0] >= 8 && checked[1] >= 5 && checked[2] >= 15, "{checked:?}");
+}
+
+#[test]
+fn errors() {
+    let descending = Joined::from_parts(b"ab".to_vec(), vec![2, 1, 2]);
+    let beyond = Joined::from_parts(b"ab".to_vec(), vec![1, 2, usize::MAX]);
+    for list in [&descending, &beyond] {
+        assert_eq!(simplify(list), Err(Error::Ends));
+        assert_eq!(resolve(list, true), Err(Error::Ends));
+        assert_eq!(glob_matches("*", true, false, list), Err(Error::Ends));
+    }
+    assert_eq!(simplify(&Joined::new(&["a", "b"])), Err(Error::Terms));
+    assert_eq!(simplify(&Joined::default()), Err(Error::Terms));
+    let chain = Graph::new(&[vec![], vec![0], vec![1, 7]]);
+    assert_eq!(heads(&chain, &[0]), Err(Error::Node));
+    assert_eq!(order(&Graph::new(&[vec![0]]), &[]), Err(Error::Cycle));
+    assert_eq!(order(&Graph::new(&[vec![]]), &[1]), Err(Error::Node));
+}

@@ -1,0 +1,7 @@
+mod PieceLists
+mod Flattened
+mod TermMerges
+mod ResolvedTerms
+mod Flags
+mod WalkResults
+mod Targets

@@ -1,0 +1,13 @@
+pub mod Statuses
+pub mod Buffers
+pub mod Pieces
+pub mod Causes
+pub mod HexResults
+pub mod MergeResults
+pub mod MergeTerms
+pub mod FlattenResults
+pub mod JoinedPaths
+pub mod FilesetResults
+pub mod GlobResults
+pub mod ArrayGraphs
+pub mod GraphViews

@@ -1,0 +1,32 @@
+-- The numbers that exports return: a result, or the status of an error.
+-- Cited by contracts of public items: Accepts, Returns.
+use Rattle.std.specs.Prelude.{◌≡◌, ℕ, ℤ, pos, negsuc, Result, Ok, Err, MatchResult}
+use Rattle.jj_core_c.specs.declared.error.Error.{Error}
+use Rattle.jj_core_c.specs.declared.error.Error.TheVariants.{Memory, Ends, Length, Syntax, Terms, Conflict, Node, Cycle, Path, Expression}
+
+-- the status of an error: -1 to -10
+abbrev pub code_of : Error → ℤ
+code_of Memory = negsuc 0
+code_of Ends = negsuc 1
+code_of Length = negsuc 2
+code_of Syntax = negsuc 3
+code_of Terms = negsuc 4
+code_of Conflict = negsuc 5
+code_of Node = negsuc 6
+code_of Cycle = negsuc 7
+code_of Path = negsuc 8
+code_of Expression = negsuc 9
+
+-- the number that represents an outcome
+abbrev pub number_of : Result ℕ Error → ℤ
+number_of (Ok n) = pos n
+number_of (Err error) = code_of error
+
+-- the number represents a result n of which P holds, or an error of which Q holds
+abbrev pub Returns : ℤ → (ℕ → Type 0) → (Error → Type 0) → Type 0
+Returns number P Q = (outcome : Result ℕ Error) × (number ≡ number_of outcome)
+    × MatchResult outcome P Q
+
+-- the arguments of the call are valid, and P holds of the number
+abbrev pub Accepts : (IsValid : Type 0) → (ℕ → Type 0) → ℕ → Type 0
+Accepts IsValid P n = IsValid × P n

@@ -1,0 +1,16 @@
+//! The C interface: exports over slices of bytes and numbers, declared in `include/jj_core.h`.
+#![tactic(auto)]
+
+mod array_graph;
+mod buffers;
+mod digests;
+mod error;
+mod filesets;
+mod flatten;
+mod globs;
+mod graphs;
+mod hex;
+mod merges;
+mod paths;
+mod pieces;
+mod walks;
