@@ -1,12 +1,13 @@
 //! Requests on matchers: the files that one accepts, its visits of directories, and walks with it.
-//! The first field is the kind of matcher, its arguments follow; the last group has the files, the
-//! directories or the marked paths.
+//! The first field is the kind of matcher, its arguments follow; those of a union, a difference or
+//! an intersection are two groups, a matcher each. The last group has the files, the directories or
+//! the marked paths.
 use crate::paths::{parse_path, parse_paths};
 use crate::visits::put_visit;
 use jj_globs::glob::GlobError;
 use jj_matchers::matchers::{
-    EverythingMatcher, FilesMatcher, GlobsMatcher, Matcher, NothingMatcher, PathGlobPattern,
-    PrefixMatcher, marked_tree, walk_matching,
+    DifferenceMatcher, EverythingMatcher, FilesMatcher, GlobsMatcher, IntersectionMatcher, Matcher,
+    NothingMatcher, PathGlobPattern, PrefixMatcher, UnionMatcher, marked_tree, walk_matching,
 };
 use jj_paths::repo_path::{RepoPath, RepoPathBuf};
 use rows::request::{Fields, Request};
@@ -80,26 +81,14 @@ fn run<M: Matcher>(
     }
 }
 
-fn run_files(
-    alloc: Global,
-    name: &str,
-    request: &Request,
-    values: &mut Values,
-) -> Result<(), RowError> {
-    let files = parse_paths(alloc, request.group(0), 1)?;
-    let matcher = FilesMatcher::new(alloc, files.as_slice())?;
-    run(alloc, name, &matcher, request.group(1), values)
+fn files_matcher(alloc: Global, fields: &Fields) -> Result<FilesMatcher, RowError> {
+    let files = parse_paths(alloc, fields, 1)?;
+    Ok(FilesMatcher::new(alloc, files.as_slice())?)
 }
 
-fn run_prefix(
-    alloc: Global,
-    name: &str,
-    request: &Request,
-    values: &mut Values,
-) -> Result<(), RowError> {
-    let prefixes = parse_paths(alloc, request.group(0), 1)?;
-    let matcher = PrefixMatcher::new(alloc, prefixes.as_slice())?;
-    run(alloc, name, &matcher, request.group(1), values)
+fn prefix_matcher(alloc: Global, fields: &Fields) -> Result<PrefixMatcher, RowError> {
+    let prefixes = parse_paths(alloc, fields, 1)?;
+    Ok(PrefixMatcher::new(alloc, prefixes.as_slice())?)
 }
 
 // Parses a glob, which ignores case if it begins with `(?i)`.
@@ -156,18 +145,97 @@ fn build_globs(
     builder.build()
 }
 
-fn run_globs(
+fn globs_matcher(
     alloc: Global,
-    name: &str,
     prefix_paths: bool,
-    request: &Request,
-    values: &mut Values,
-) -> Result<(), RowError> {
-    let fields = request.group(0);
+    fields: &Fields,
+) -> Result<GlobsMatcher, RowError> {
     let dirs = parse_dirs(alloc, fields)?;
     let globs = parse_globs(alloc, fields)?;
     let matcher = build_globs(alloc, prefix_paths, dirs.as_slice(), globs.as_slice())?;
-    run(alloc, name, &matcher, request.group(1), values)
+    Ok(matcher)
+}
+
+// Runs the request of this name on the combination of two matchers.
+fn run_combined<M: Matcher, N: Matcher>(
+    alloc: Global,
+    name: &str,
+    first: M,
+    second: N,
+    request: &Request,
+    values: &mut Values,
+) -> Result<(), RowError> {
+    let subjects = request.group(3);
+    match request.group(0).string(0) {
+        "union" => run(
+            alloc,
+            name,
+            &UnionMatcher::new(first, second),
+            subjects,
+            values,
+        ),
+        "difference" => run(
+            alloc,
+            name,
+            &DifferenceMatcher::new(first, second),
+            subjects,
+            values,
+        ),
+        _ => run(
+            alloc,
+            name,
+            &IntersectionMatcher::new(first, second),
+            subjects,
+            values,
+        ),
+    }
+}
+
+// Runs the request on a combination of a matcher with that of the third group.
+fn run_second<M: Matcher>(
+    alloc: Global,
+    name: &str,
+    first: M,
+    request: &Request,
+    values: &mut Values,
+) -> Result<(), RowError> {
+    let fields = request.group(2);
+    match fields.string(0) {
+        "everything" => run_combined(alloc, name, first, EverythingMatcher, request, values),
+        "nothing" => run_combined(alloc, name, first, NothingMatcher, request, values),
+        "files" => {
+            let second = files_matcher(alloc, fields)?;
+            run_combined(alloc, name, first, second, request, values)
+        }
+        "prefix" => {
+            let second = prefix_matcher(alloc, fields)?;
+            run_combined(alloc, name, first, second, request, values)
+        }
+        kind => {
+            let second = globs_matcher(alloc, kind == "prefix-globs", fields)?;
+            run_combined(alloc, name, first, second, request, values)
+        }
+    }
+}
+
+// Runs the request on a combination of the matchers of the second and the third group.
+fn run_first(
+    alloc: Global,
+    name: &str,
+    request: &Request,
+    values: &mut Values,
+) -> Result<(), RowError> {
+    let fields = request.group(1);
+    match fields.string(0) {
+        "everything" => run_second(alloc, name, EverythingMatcher, request, values),
+        "nothing" => run_second(alloc, name, NothingMatcher, request, values),
+        "files" => run_second(alloc, name, files_matcher(alloc, fields)?, request, values),
+        "prefix" => run_second(alloc, name, prefix_matcher(alloc, fields)?, request, values),
+        kind => {
+            let first = globs_matcher(alloc, kind == "prefix-globs", fields)?;
+            run_second(alloc, name, first, request, values)
+        }
+    }
 }
 
 // Runs the request of this name on a matcher of the kind in the first field.
@@ -177,13 +245,40 @@ fn run_kind(
     request: &Request,
     values: &mut Values,
 ) -> Result<(), RowError> {
-    match request.group(0).string(0) {
-        "everything" => run(alloc, name, &EverythingMatcher, request.group(1), values),
-        "nothing" => run(alloc, name, &NothingMatcher, request.group(1), values),
-        "files" => run_files(alloc, name, request, values),
-        "prefix" => run_prefix(alloc, name, request, values),
-        "globs" => run_globs(alloc, name, false, request, values),
-        "prefix-globs" => run_globs(alloc, name, true, request, values),
+    let fields = request.group(0);
+    let subjects = request.group(1);
+    match fields.string(0) {
+        "everything" => run(alloc, name, &EverythingMatcher, subjects, values),
+        "nothing" => run(alloc, name, &NothingMatcher, subjects, values),
+        "files" => run(
+            alloc,
+            name,
+            &files_matcher(alloc, fields)?,
+            subjects,
+            values,
+        ),
+        "prefix" => run(
+            alloc,
+            name,
+            &prefix_matcher(alloc, fields)?,
+            subjects,
+            values,
+        ),
+        "globs" => run(
+            alloc,
+            name,
+            &globs_matcher(alloc, false, fields)?,
+            subjects,
+            values,
+        ),
+        "prefix-globs" => run(
+            alloc,
+            name,
+            &globs_matcher(alloc, true, fields)?,
+            subjects,
+            values,
+        ),
+        "union" | "difference" | "intersection" => run_first(alloc, name, request, values),
         _ => Err(RowError::Unreadable("kind of matcher")),
     }
 }

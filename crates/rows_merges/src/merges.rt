@@ -1,6 +1,6 @@
 //! Requests on merges of strings. A group lists the terms; adds and removes alternate.
 use jj_content::content_hash::{ToJson, ToJsonError, blake2b_hash};
-use jj_merges::merge::{Diff, Merge, MergeBuilder, SameChange, trivial_merge};
+use jj_merges::merge::{Diff, Merge, MergeBuilder, SameChange, three_way, trivial_merge};
 use rows::request::{Fields, Request};
 use rows::row_error::{RowError, agree, needs};
 use rows::values::Values;
@@ -44,6 +44,26 @@ fn trivial(alloc: Global, request: &Request, values: &mut Values) -> Result<(), 
     let whole = merge_of(request.group(0))?;
     let simplified = whole.simplify(alloc)?;
     put_outcomes(&whole, &simplified, values)
+}
+
+// `three-way BASE LEFT RIGHT`: the outcome, the same as that of `trivial LEFT BASE RIGHT`.
+fn three_way_outcome(
+    alloc: Global,
+    request: &Request,
+    values: &mut Values,
+) -> Result<(), RowError> {
+    let terms = request.group(0).strings(0)?;
+    let [base, left, right] = terms.as_slice() else {
+        return Err(RowError::Precondition("three strings"));
+    };
+    let outcome = three_way(base, left, right);
+    values.option_string(outcome.map(|string: &String| string.as_str()));
+    let terms = [left.as_str(), base.as_str(), right.as_str()];
+    let trivial = trivial_merge(&terms, SameChange::Accept);
+    agree(
+        trivial.copied() == outcome.map(|string: &String| string.as_str()),
+        "trivial_merge",
+    )
 }
 
 // `merge-simplify TERMS`: the remaining terms.
@@ -408,6 +428,7 @@ fn call_constructor(alloc: Global, name: &str, request: &Request, values: &mut V
 pub fn call(alloc: Global, name: &str, request: &Request, values: &mut Values) -> bool {
     let called = match name {
         "trivial" => trivial(alloc, request, values),
+        "three-way" => three_way_outcome(alloc, request, values),
         "merge-simplify" => simplify(alloc, request, values),
         "merge-simplify-by" => simplify_by(alloc, request, values),
         "merge-update" => update(alloc, request, values),

@@ -132,8 +132,10 @@ fn entries_of(
 ) -> Result<Entries, RowError> {
     let mut parsed = Vec::new(alloc);
     for entry in entries.split(' ') {
-        if let Some(parts) = entry_parts(entry) {
-            parsed.push(entry_of(alloc, backend, trees, parts)?)?;
+        match entry_parts(entry) {
+            Some(parts) => parsed.push(entry_of(alloc, backend, trees, parts)?)?,
+            None if entries.is_empty() => {}
+            None => return Err(RowError::Unreadable("entry of a tree")),
         }
     }
     Ok(parsed)
@@ -141,9 +143,8 @@ fn entries_of(
 
 // The digit and the entries of a tree such as `3:x=f0 y=t1`.
 fn tree_parts(tree: &str) -> Result<(u8, &str), RowError> {
-    let (digit, entries) = tree.split_once(':').unwrap_or((tree, ""));
-    match digit.as_bytes() {
-        [digit] => Ok((*digit, entries)),
+    match tree.split_once(':') {
+        Some((digit, entries)) if digit.len() == 1 => Ok((digit.as_bytes()[0], entries)),
         _ => Err(RowError::Unreadable("digit of a tree")),
     }
 }

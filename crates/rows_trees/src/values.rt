@@ -136,13 +136,20 @@ fn entry_of(alloc: Global, entry: &str) -> Result<(RepoPathComponentBuf, TreeVal
     Ok((name, value_of(alloc, value)?))
 }
 
-/// Parses the entries of a tree.
-pub fn tree_of(alloc: Global, fields: &Fields) -> Result<Tree, RowError> {
+fn entries_of(
+    alloc: Global,
+    fields: &Fields,
+) -> Result<Vec<(RepoPathComponentBuf, TreeValue)>, RowError> {
     let mut entries = Vec::new(alloc);
     for index in 0..fields.len() {
         entries.push(entry_of(alloc, fields.string(index))?)?;
     }
-    tree_of_entries(entries)
+    Ok(entries)
+}
+
+/// Parses the entries of a tree.
+pub fn tree_of(alloc: Global, fields: &Fields) -> Result<Tree, RowError> {
+    tree_of_entries(entries_of(alloc, fields)?)
 }
 
 fn put_entries(alloc: Global, tree: &Tree, values: &mut Values) {
@@ -163,6 +170,19 @@ fn tree(alloc: Global, request: &Request, values: &mut Values) -> Result<(), Row
     put_content(alloc, values, &tree);
     put_entries(alloc, &tree, values);
     agree(tree.clone()? == tree, "clone of a tree")
+}
+
+// `tree-from-entries ENTRY ..`: the tree of entries in any order, as `tree-entries` without the
+// content, or `duplicate` and a name.
+fn from_entries(alloc: Global, request: &Request, values: &mut Values) -> Result<(), RowError> {
+    match Tree::from_entries(entries_of(alloc, request.group(0))?) {
+        Ok(tree) => put_entries(alloc, &tree, values),
+        Err(error) => {
+            values.word("duplicate");
+            values.string(error.name.as_internal_str());
+        }
+    }
+    Ok(())
 }
 
 fn put_value(alloc: Global, value: Option<&TreeValue>, values: &mut Values) {
@@ -193,6 +213,7 @@ pub fn call(alloc: Global, name: &str, request: &Request, values: &mut Values) -
         "values-describe" => describe(alloc, request, values),
         "value-with-id" => new_id(alloc, request, values),
         "tree-entries" => tree(alloc, request, values),
+        "tree-from-entries" => from_entries(alloc, request, values),
         "tree-find" => find(alloc, request, values),
         _ => return false,
     };
