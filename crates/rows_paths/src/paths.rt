@@ -42,6 +42,11 @@ fn put_parsed<T: fmt::Debug>(
     }
 }
 
+// Whether memory ran out before a string was parsed.
+fn is_out_of_memory<T>(parsed: &Result<T, InvalidNewRepoPathError>) -> bool {
+    matches!(parsed, Err(InvalidNewRepoPathError::Memory))
+}
+
 fn borrowed_path(alloc: Global, text: &str) -> Result<RepoPathBuf, InvalidNewRepoPathError> {
     let path = RepoPath::from_internal_string(alloc, text)?;
     Ok(path.to_owned(alloc)?)
@@ -51,8 +56,11 @@ fn path(alloc: Global, request: &Request, values: &mut Values) -> Result<(), Row
     let text = request.group(0).only_string();
     let owned = RepoPathBuf::from_internal_string(String::from_str(alloc, text)?);
     put_parsed(values, &owned)?;
-    let is_same = borrowed_path(alloc, text) == owned;
-    agree(is_same, "borrowed and owned paths")?;
+    let borrowed = borrowed_path(alloc, text);
+    if is_out_of_memory(&borrowed) {
+        return Err(RowError::Memory);
+    }
+    agree(borrowed == owned, "borrowed and owned paths")?;
     match owned {
         Ok(path) => copies_agree(path, text),
         Err(_error) => Ok(()),
@@ -83,8 +91,11 @@ fn path_name(alloc: Global, request: &Request, values: &mut Values) -> Result<()
     let text = request.group(0).only_string();
     let owned = RepoPathComponentBuf::new(String::from_str(alloc, text)?);
     put_parsed(values, &owned)?;
-    let is_same = borrowed_name(alloc, text) == owned;
-    agree(is_same, "borrowed and owned names")?;
+    let borrowed = borrowed_name(alloc, text);
+    if is_out_of_memory(&borrowed) {
+        return Err(RowError::Memory);
+    }
+    agree(borrowed == owned, "borrowed and owned names")?;
     match owned {
         Ok(name) => name_copies_agree(name, text),
         Err(_error) => Ok(()),
