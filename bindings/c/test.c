@@ -42,6 +42,12 @@ static void known_results(void) {
     EXPECT(jj_fileset_matches(BYTES("src ~"), BYTES(""), one, 0, ITEMS(matches)) == JJ_EXPRESSION);
     EXPECT(jj_fileset_matches(BYTES("src"), BYTES("a//b"), one + 3, 1, ITEMS(matches)) == JJ_PATH && matches[0]);
     EXPECT(jj_fileset_matches(BYTES("src"), BYTES("abcde"), ITEMS(one), ITEMS(matches)) == JJ_LENGTH);
+    EXPECT(jj_walk(BYTES("src"), (size_t[]){3}, 1, true, BYTES("src/asrc.rs"), ITEMS(((size_t[]){5, 11})), ITEMS(matches)) == 2 && matches[0] && !matches[1]);
+    EXPECT(jj_walk(BYTES("src.rs"), (size_t[]){6}, 1, false, BYTES("src/asrc.rs"), ITEMS(((size_t[]){5, 11})), ITEMS(matches)) == 1 && !matches[0] && matches[1]);
+    EXPECT(jj_walk(BYTES("a"), one, 1, true, BYTES("a//b"), one + 3, 1, ITEMS(matches)) == JJ_PATH && !matches[0] && matches[1]);
+    EXPECT(jj_walk(BYTES("a//b"), one + 3, 1, true, BYTES("a"), one, 1, ITEMS(matches)) == JJ_PATH && !matches[0] && matches[1]);
+    EXPECT(jj_walk(BYTES("a"), one + 1, 1, true, BYTES("a"), one, 1, ITEMS(matches)) == JJ_ENDS);
+    EXPECT(jj_walk(BYTES("a"), one, 1, true, BYTES("abcde"), ITEMS(one), ITEMS(matches)) == JJ_LENGTH);
     EXPECT(jj_merge_simplify(BYTES("abbca"), ITEMS(one), ITEMS(kept)) == 3 && kept[0] == 0 && kept[1] == 3 && kept[2] == 4);
     EXPECT(jj_merge_simplify(BYTES("abbca"), ITEMS(one), kept, 2) == JJ_LENGTH);
     EXPECT(jj_merge_simplify(BYTES("abbca"), one, 4, ITEMS(kept)) == JJ_TERMS);
@@ -73,10 +79,10 @@ static bool fails(void) { return fail_in > 0 && --fail_in == 0; }
 void *__wrap_malloc(size_t size) { return fails() ? NULL : __real_malloc(size); }
 void *__wrap_realloc(void *block, size_t size) { return fails() ? NULL : __real_realloc(block, size); }
 
-enum { ALLOCATING_CALLS = 10 };
+enum { ALLOCATING_CALLS = 12 };
 
 static int64_t call_with(int which, uint8_t *text, bool *matches, size_t *list) {
-    static const size_t one[] = {1, 2, 3, 4, 5}, merges[] = {1, 4, 5}, ends[] = {0, 1, 2, 4}, targets[] = {0, 0, 1, 2}, nodes[] = {1, 2, 3};
+    static const size_t one[] = {1, 2, 3, 4, 5}, merges[] = {1, 4, 5}, ends[] = {0, 1, 2, 4}, targets[] = {0, 0, 1, 2}, nodes[] = {1, 2, 3}, paths[] = {1, 4, 9};
     switch (which) {
     case 0: return jj_hex_encode(BYTES("\x01\xef"), false, text, 8);
     case 1: return jj_hex_decode(BYTES("01EF"), false, text, 8);
@@ -87,6 +93,8 @@ static int64_t call_with(int which, uint8_t *text, bool *matches, size_t *list) 
     case 6: return jj_graph_heads(ITEMS(targets), ITEMS(ends), ITEMS(nodes), list, 8);
     case 7: return jj_merge_flatten(ITEMS(merges), list, 8);
     case 8: return jj_fileset_matches(BYTES("(a | b*) ~ c"), BYTES("abdef"), ITEMS(one), matches, 8);
+    case 9: return jj_walk(BYTES("abdef"), ITEMS(one), false, BYTES("aa/ba/b/c"), ITEMS(paths), matches, 8);
+    case 10: return jj_walk(BYTES("ab"), ITEMS(((size_t[]){1, 2})), true, BYTES("aa/ba/b/c"), ITEMS(paths), matches, 8);
     default: return jj_graph_common(ITEMS(targets), ITEMS(ends), nodes, 2, nodes + 1, 2, list, 8);
     }
 }
@@ -181,7 +189,7 @@ static int64_t draw_call(struct random *r) {
     bool flag = draw(r, 2), icase = draw(r, 2);
     uint8_t *out = take(r, room * 4);
     size_t *list = take(r, room * sizeof *list);
-    switch (draw(r, 14)) {
+    switch (draw(r, 15)) {
     case 0: return jj_hash(draw_bytes(r, len, digits), len, out, room * 4);
     case 1: return jj_content_hash(draw_bytes(r, len, digits), len, out, room * 4);
     case 2: return jj_content_hash_list(draw_bytes(r, len, digits), len, draw_ends(r, count, len), count, out, room * 4);
@@ -194,7 +202,11 @@ static int64_t draw_call(struct random *r) {
     case 9: return jj_graph_order(draw_targets(r, len, nodes), len, draw_ends(r, nodes, len), nodes, draw_nodes(r, count, nodes), count, list, room);
     case 10: return jj_merge_flatten(draw_ends(r, count, len), count, list, room);
     case 11: return jj_fileset_matches(draw_bytes(r, other, sets), other, draw_bytes(r, len, "abc/"), len, draw_ends(r, count, len), count, take(r, room), room);
-    case 12: return jj_graph_heads(draw_targets(r, len, nodes), len, draw_ends(r, nodes, len), nodes, draw_nodes(r, count, nodes), count, list, room);
+    case 12: {
+        size_t parts = draw_len(r) / 4;
+        return jj_walk(draw_bytes(r, other, "aab/"), other, draw_ends(r, parts, other), parts, flag, draw_bytes(r, len, "aab/"), len, draw_ends(r, count, len), count, take(r, room), room);
+    }
+    case 13: return jj_graph_heads(draw_targets(r, len, nodes), len, draw_ends(r, nodes, len), nodes, draw_nodes(r, count, nodes), count, list, room);
     default:
         return jj_graph_common(draw_targets(r, len, nodes), len, draw_ends(r, nodes, len), nodes, draw_nodes(r, count, nodes), count, draw_nodes(r, other, nodes), other, list, room);
     }

@@ -25,6 +25,7 @@ SIGNATURES = {
     "jj_hex_prefix_matches": [BYTES, c_size_t, c_bool, BYTES, c_size_t],
     "jj_glob_matches": [BYTES, c_size_t, c_bool, c_bool, BYTES, c_size_t, INDICES, c_size_t, BOOLS, c_size_t],
     "jj_fileset_matches": [BYTES, c_size_t, BYTES, c_size_t, INDICES, c_size_t, BOOLS, c_size_t],
+    "jj_walk": [BYTES, c_size_t, INDICES, c_size_t, c_bool, BYTES, c_size_t, INDICES, c_size_t, BOOLS, c_size_t],
     "jj_merge_simplify": [BYTES, c_size_t, INDICES, c_size_t, INDICES, c_size_t],
     "jj_merge_resolve": [BYTES, c_size_t, INDICES, c_size_t, c_bool],
     "jj_merge_flatten": [INDICES, c_size_t, INDICES, c_size_t],
@@ -139,6 +140,14 @@ def glob_matches(glob, paths, separator=True, icase=False):
 def fileset_matches(expression, paths):
     """For each path, whether it is in the file set that the expression means, such as `src ~ tests`."""
     return _filled("jj_fileset_matches", c_bool, len(paths), *_bytes(expression), *_joined(paths))
+
+
+def walk(listed, files, prefixes=True):
+    """Walks the tree of the files at these paths: for each file whether the walk finds it, that is, whether it is listed or, with `prefixes`,
+    at or below a listed path, and not the root; and the number of directories entered."""
+    found = (c_bool * max(len(files), 1))()
+    entered = _number(LIBRARY.jj_walk(*_joined(listed), prefixes, *_joined(files), found, len(files)))
+    return found[:len(files)], entered
 
 
 def simplify(terms):

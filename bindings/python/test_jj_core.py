@@ -70,6 +70,19 @@ class Test(unittest.TestCase):
         self.raises("JJ_EXPRESSION", jj_core.fileset_matches, "src &", paths)
         self.raises("JJ_PATH", jj_core.fileset_matches, "src", [b"\xff"])
 
+    def test_walks(self):
+        path = lambda field: b"" if field == b"." else field
+        checked = 0
+        for (kind, *given), expected in rows("walk"):
+            if kind in (b"files", b"prefix"):
+                bar, bar_of_entered = given.index(b"|"), expected.index(b"|")
+                listed, files = [*map(path, given[:bar])], [*map(path, given[bar + 1:])]
+                wanted = [it in expected[:bar_of_entered] for it in files], len(expected) - bar_of_entered - 1
+                self.assertEqual(jj_core.walk(listed, files, kind == b"prefix"), wanted)
+                checked += 1
+        self.assertGreaterEqual(checked, 7)
+        self.raises("JJ_PATH", jj_core.walk, ["a"], ["a//b"])
+
     def test_merges(self):
         for terms, expected in rows("merge-simplify"):
             self.assertEqual([terms[it] for it in jj_core.simplify(terms)], expected)

@@ -17,6 +17,10 @@ extern "C" {
         expression: *const u8, expression_len: usize, bytes: *const u8, bytes_len: usize, ends: *const usize, ends_len: usize,
         matches: *mut bool, matches_len: usize,
     ) -> i64;
+    pub fn jj_walk(
+        listed: *const u8, listed_len: usize, listed_ends: *const usize, listed_ends_len: usize, prefixes: bool, bytes: *const u8,
+        bytes_len: usize, ends: *const usize, ends_len: usize, found: *mut bool, found_len: usize,
+    ) -> i64;
     pub fn jj_merge_simplify(
         bytes: *const u8, bytes_len: usize, ends: *const usize, ends_len: usize, kept: *mut usize, kept_len: usize,
     ) -> i64;

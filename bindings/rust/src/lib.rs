@@ -203,6 +203,28 @@ pub fn fileset_matches(expression: &str, paths: &Joined) -> Result<Vec<bool>, Er
     })
 }
 
+/// A walk of a tree of files.
+#[derive(Clone, Debug, PartialEq, Eq)]
+pub struct Walk {
+    /// Whether the walk finds each file.
+    pub found: Vec<bool>,
+    /// The number of directories that the walk enters.
+    pub entered: usize,
+}
+
+/// Walks the tree of the files at these paths. It finds those that are listed or, with `prefixes`, at or below a listed path, but never the
+/// root, and enters no directory in which no listed path can be.
+pub fn walk(listed: &Joined, prefixes: bool, files: &Joined) -> Result<Walk, Error> {
+    let mut found = vec![false; files.len()];
+    let entered = number(unsafe {
+        ffi::jj_walk(
+            listed.bytes.as_ptr(), listed.bytes.len(), listed.ends.as_ptr(), listed.ends.len(), prefixes, files.bytes.as_ptr(),
+            files.bytes.len(), files.ends.as_ptr(), files.ends.len(), found.as_mut_ptr(), found.len(),
+        )
+    })?;
+    Ok(Walk { found, entered })
+}
+
 /// The indices of the terms that remain of a merge, in the order of the simplified merge.
 pub fn simplify(terms: &Joined) -> Result<Vec<usize>, Error> {
     filled(terms.len(), |out, len| unsafe {

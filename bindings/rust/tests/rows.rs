@@ -1,7 +1,7 @@
 //! The rows of the conformance table of the libraries that apply to this crate.
 use jj_core_verified::{
     closest_common, fileset_matches, flatten, glob_matches, hash, heads, hex_decode, hex_encode, hex_prefix_matches, order, resolve, simplify,
-    Error, Graph, Joined,
+    walk, Error, Graph, Joined, Walk,
 };
 
 const TABLE: &str = include_str!("../../../crates/conformance/stdin");
@@ -111,6 +111,31 @@ fn filesets() {
 }
 
 #[test]
+fn walks() {
+    let mut checked = 0;
+    each_row("walk", 15, |given, expected| {
+        let prefixes = match &given[0][..] {
+            b"files" => false,
+            b"prefix" => true,
+            _ => return,
+        };
+        // The table writes the root as a dot.
+        let path = |field: &Vec<u8>| if field == b"." { Vec::new() } else { field.clone() };
+        let bar = |fields: &Fields| fields.iter().position(|it| it == b"|").unwrap();
+        let listed: Fields = given[1..bar(given)].iter().map(path).collect();
+        let files: Fields = given[bar(given) + 1..].iter().map(path).collect();
+        let (names, entered) = (&expected[..bar(expected)], expected.len() - bar(expected) - 1);
+        let found = files.iter().map(|it| names.contains(it)).collect();
+        assert_eq!(walk(&Joined::new(&listed), prefixes, &Joined::new(&files)), Ok(Walk { found, entered }), "{given:?}");
+        checked += 1;
+    });
+    assert!(checked >= 7, "{checked}");
+    let (valid, invalid) = (Joined::new(&["a"]), Joined::new(&["a//b"]));
+    assert_eq!(walk(&valid, true, &invalid), Err(Error::Path));
+    assert_eq!(walk(&invalid, true, &valid), Err(Error::Path));
+}
+
+#[test]
 fn merges() {
     each_row("merge-simplify", 60, |given, expected| {
         let kept = simplify(&Joined::new(given)).unwrap();
@@ -192,6 +217,8 @@ fn errors() {
         assert_eq!(simplify(list), Err(Error::Ends));
         assert_eq!(resolve(list, true), Err(Error::Ends));
         assert_eq!(glob_matches("*", true, false, list), Err(Error::Ends));
+        assert_eq!(walk(list, true, &Joined::default()), Err(Error::Ends));
+        assert_eq!(walk(&Joined::default(), true, list), Err(Error::Ends));
     }
     assert_eq!(simplify(&Joined::new(&["a", "b"])), Err(Error::Terms));
     assert_eq!(simplify(&Joined::default()), Err(Error::Terms));

@@ -5,3 +5,4 @@ mod ResolvedTerms
 mod Flags
 mod WalkResults
 mod Targets
+mod TreeWalks

@@ -9,5 +9,6 @@ pub mod FlattenResults
 pub mod JoinedPaths
 pub mod FilesetResults
 pub mod GlobResults
+pub mod TreeWalks
 pub mod ArrayGraphs
 pub mod GraphViews

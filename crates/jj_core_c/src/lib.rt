@@ -13,4 +13,5 @@ mod hex;
 mod merges;
 mod paths;
 mod pieces;
+mod tree_walks;
 mod walks;
