@@ -1,7 +1,6 @@
 -- The files that a walk finds by a list of paths, and the directories that it enters.
-use Rattle.std.proofs.Common.{◌≡◌, ◌≢◌, ◌∙◌, ℕ, Bool, true, false, List, [], ◌∷◌, ◌++◌, length, refl, sym, ap, subst, arith, if◌then◌else◌}
-use Rattle.std.specs.Prelude.{◌↔◌, IsTrue, Contains}
-use Rattle.std.specs.List.{AllZip}
+use Rattle.std.proofs.Common.{◌≡◌, ◌≢◌, ◌∙◌, Bool, true, List, [], ◌∷◌, ◌++◌, length, refl, sym, ap, subst, arith, if◌then◌else◌}
+use Rattle.std.specs.Prelude.{◌↔◌, Contains}
 use Rattle.std.proofs.lemmas.List.Elements.{Contains-append_right}
 use Rattle.jj_paths.specs.Paths.{Name, Path}
 use Rattle.jj_paths.specs.Tree.{Tree}
@@ -11,7 +10,7 @@ use Rattle.jj_matchers.specs.Marks.{IsMarkedTree}
 use Rattle.jj_matchers.specs.PathLists.{HasSamePaths, is_below, is_at_or_below, files_spec, prefix_spec}
 use Rattle.jj_matchers.specs.VisitSpecs.{VisitSpec, specific}
 use Rattle.jj_matchers.specs.Walk.{entered_by, files_of}
-use Rattle.jj_core_c.specs.TreeWalks.{AreContained, AreFoundFlags, FindsListed, IsListed}
+use Rattle.jj_core_c.specs.TreeWalks.{AreContained, AreFoundFlags, FindsListed}
 
 -- a walk finds the accepted files below the root, for any description of the accepted paths
 module _ (files : List Path) (tree : Tree Bool) (found : List Path) (accepts : Path → Bool) (Has : Path → Type 0) where
