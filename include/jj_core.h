@@ -93,8 +93,8 @@ int64_t jj_glob_matches(const uint8_t *glob, size_t glob_len, bool separator, bo
 int64_t jj_fileset_matches(const uint8_t *expression, size_t expression_len, const uint8_t *bytes, size_t bytes_len, const size_t *ends, size_t ends_len, bool *matches, size_t matches_len);
 
 /* Walks the tree of the files at these paths, and writes for each whether the walk finds it: whether it is listed or, with `prefixes`, at or
- * below a listed path. The root is never found. Returns the number of directories that the walk enters: not those in which no listed path can
- * be. O(bytes * depth * log n) for n paths of at most `depth` components, and O(bytes * depth) memory.
+ * below a listed path. The root is never found. Returns the number of directories that the walk enters: ancestors of listed paths and, with
+ * `prefixes`, those at or below one. O(bytes * depth * log n) for n paths of at most `depth` components, and O(bytes * depth) memory.
  * Errors: JJ_ENDS, JJ_LENGTH, JJ_PATH, JJ_MEMORY. Allocates. */
 int64_t jj_walk(const uint8_t *listed, size_t listed_len, const size_t *listed_ends, size_t listed_ends_len, bool prefixes, const uint8_t *bytes, size_t bytes_len, const size_t *ends, size_t ends_len, bool *found, size_t found_len);
 

@@ -1,5 +1,5 @@
 //! Prints how long calls take, in nanoseconds.
-use jj_core_verified::{content_hash_list, glob_matches, hash, heads, hex_encode, order, resolve, simplify, Graph, Joined};
+use jj_core_verified::{content_hash_list, glob_matches, hash, heads, hex_encode, order, resolve, simplify, walk, Graph, Joined};
 use std::hint::black_box;
 use std::time::Instant;
 
@@ -22,6 +22,7 @@ fn main() -> Result<(), jj_core_verified::Error> {
     time("hex, 64 bytes", 200_000, || hex_encode(&big[..64], false));
     time("glob, parsed and matched once", 50_000, || glob_matches("src/**/*.rs", true, false, &Joined::new(&["src/a/b.rs"])));
     time("glob, matched against 1000 paths", 500, || glob_matches("src/**/*.rs", true, false, &paths));
+    time("walk of 1000 paths, by one prefix", 500, || walk(&Joined::new(&["src/a7"]), true, &paths));
     time("simplify, 5 terms", 200_000, || simplify(&Joined::new(&["a", "b", "b", "c", "a"])));
     time("resolve, 3 terms", 200_000, || resolve(&Joined::new(&["a", "a", "b"]), false));
     time("order, chain of 1000 nodes", 200, || order(&chain, &nodes));

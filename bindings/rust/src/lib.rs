@@ -212,8 +212,8 @@ pub struct Walk {
     pub entered: usize,
 }
 
-/// Walks the tree of the files at these paths. It finds those that are listed or, with `prefixes`, at or below a listed path, but never the
-/// root, and enters no directory in which no listed path can be.
+/// Walks the tree of the files at these paths. The walk finds those that are listed or, with `prefixes`, at or below a listed path, but never
+/// the root. It enters directories that are ancestors of listed paths and, with `prefixes`, those at or below one.
 pub fn walk(listed: &Joined, prefixes: bool, files: &Joined) -> Result<Walk, Error> {
     let mut found = vec![false; files.len()];
     let entered = number(unsafe {

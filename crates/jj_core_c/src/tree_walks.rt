@@ -105,8 +105,9 @@ fn walk(
 
 /// Walks the tree of the files at these paths, and writes whether it finds each: whether the path
 /// is not the root, and on the list or, with `prefixes`, at or below a path of the list. Returns
-/// the number of directories that the walk enters. O(bytes · depth · log n) for n paths of at most
-/// `depth` components, and O(bytes · depth) memory.
+/// the number of directories that the walk enters: ancestors of listed paths and, with `prefixes`,
+/// those at or below one. O(bytes · depth · log n) for n paths of at most `depth` components, and
+/// O(bytes · depth) memory.
 ///
 /// Errors: `Ends`, `Length`, `Path`, `Memory`.
 #[unsafe(no_mangle)]

@@ -1,4 +1,4 @@
-use Rattle.std.proofs.Common.{◌≡◌, Bool, true, false, length, map, subst, sym}
+use Rattle.std.proofs.Common.{◌≡◌, Bool, length, map, subst, sym}
 use Rattle.std.specs.Prelude.{Any, Contains}
 use Rattle.std.proofs.lemmas.Result.{IfOk-weaker}
 use Rattle.jj_paths.specs.Names.{path_of}
