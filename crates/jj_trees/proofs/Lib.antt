@@ -9,3 +9,6 @@ pub mod PresentTrees
 pub mod Roots
 mod MemoryObjectLemmas
 mod SameRecords
+pub mod StoredTries
+pub mod TrieValues
+pub mod ChosenValues

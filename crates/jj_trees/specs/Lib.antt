@@ -6,3 +6,5 @@ pub mod FirstNames
 pub mod MemoryErrors
 pub mod MemoryObjects
 pub mod Signing
+pub mod WrittenTrees
+pub mod PathTries

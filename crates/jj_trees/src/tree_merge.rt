@@ -16,6 +16,7 @@ ghost use Rattle.jj_trees.specs.DirectoryMerges.{IsDirectoryError, IsReadAt, IsW
 ghost use Rattle.jj_trees.specs.DirectoryMerges.{conflict_entries, entries_of};
 
 mod rows;
+mod writing;
 
 use jj_backend::backend::{
     Backend, BackendError, BackendResult, Tree, TreeId, TreeValue, are_trees_or_absent,
@@ -28,6 +29,7 @@ use smallvec::SmallVec;
 use std::alloc::{AllocError, Global};
 use std::cmp::Ordering;
 use std::num::NonZeroUsize;
+pub use writing::write_back;
 
 // The outcome of the values at one path.
 enum Step<'a> {
