@@ -1,5 +1,5 @@
 -- The values of resolved paths and of conflicts so far, in the loops that insert them.
-use Rattle.std.proofs.Common.{◌≡◌, ◌∙◌, ℕ, zero, suc, ◌+◌, ◌<◌, List, [], ◌∷◌, ◌++◌, take, drop, length, get_or, Option, Some, None, refl, sym, ap, subst, append_assoc, append-nil, add-one, arith}
+use Rattle.std.proofs.Common.{◌≡◌, ◌∙◌, ℕ, zero, suc, ◌+◌, ◌<◌, List, [], ◌∷◌, ◌++◌, take, drop, length, get_or, Option, Some, None, refl, sym, ap, subst, append_assoc, add-one, arith}
 use Rattle.std.proofs.lemmas.List.{take-append-drop, take_more}
 use Rattle.jj_paths.specs.Paths.{Path}
 use Rattle.jj_backend.specs.MergedTreeValues.{Values}

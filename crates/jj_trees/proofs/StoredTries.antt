@@ -1,5 +1,5 @@
 -- The trees that are written for the directories of a trie.
-use Rattle.std.proofs.Common.{◌≡◌, ◌⊎◌, inl, inr, ℕ, suc, ◌+◌, ◌-◌, ◌<◌, Bool, true, false, ◌&&◌, if◌then◌else◌, List, [], ◌∷◌, ◌++◌, length, get_or, take, Option, Some, None, refl, sym, ap, subst, ◌∙◌, arith}
+use Rattle.std.proofs.Common.{◌≡◌, ◌⊎◌, inl, inr, ℕ, ◌+◌, ◌<◌, Bool, true, false, ◌&&◌, List, [], ◌∷◌, ◌++◌, length, get_or, take, Option, Some, None, refl, sym, ap, subst, ◌∙◌}
 use Rattle.std.specs.Prelude.{Result, Ok, Err, IfOk, IfSome, OnErr, option_and_then, option_map}
 use Rattle.std.specs.Map.{lookup}
 use Rattle.std.specs.Ordering.{is_lt}
@@ -11,11 +11,11 @@ use Rattle.std.proofs.lemmas.List.{take_more, get_or_default}
 use Rattle.std.proofs.Math.Seq.{take-length}
 use Rattle.jj_paths.proofs.ChildLookup.{child-at}
 use Rattle.jj_paths.specs.Paths.{Name, Path, name_cmp}
-use Rattle.jj_paths.specs.Tree.{Tree as Trie, tree_of, none, branch, branches_of, children, child, get, value_at}
+use Rattle.jj_paths.specs.Tree.{tree_of, none, branch, branches_of, children, child, get, value_at}
 use Rattle.jj_backend.specs.Objects.{ById, Objects, put, IsFree, AddsTree}
 use Rattle.jj_backend.specs.Trees.{Entries}
 use Rattle.jj_backend.specs.declared.backend.tree_value.TreeValue.{TreeValue}
-use Rattle.jj_backend.specs.declared.backend.tree_value.TreeValue.TheVariants.{File, Symlink, Tree, GitSubmodule}
+use Rattle.jj_backend.specs.declared.backend.tree_value.TreeValue.TheVariants.{Tree}
 use Rattle.jj_backend.specs.declared.backend.errors.BackendError.{BackendError}
 use Rattle.jj_trees.specs.WrittenTrees.{AddsTrees, stored_at}
 use Rattle.jj_trees.specs.PathTries.{Node, Nodes, IsEntryValue, AreStored, IsStored}

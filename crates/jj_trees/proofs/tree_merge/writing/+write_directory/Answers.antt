@@ -1,7 +1,5 @@
-use Rattle.std.proofs.Common.{◌≡◌, ◌∙◌, ◌-◌, ◌+◌, ◌<◌, Some, None, true, length, get_or, take, sym, ap, subst, arith}
+use Rattle.std.proofs.Common.{◌≡◌, ◌∙◌, ◌-◌, ◌+◌, ◌<◌, Some, length, get_or, take, sym, ap, subst, arith}
 use Rattle.std.proofs.lemmas.Result.{err_from_is_err_and}
-use Rattle.std.specs.FinMap.{is_sorted}
-use Rattle.jj_paths.specs.Paths.{name_cmp}
 use Rattle.jj_paths.specs.Tree.{branches_of, children, child}
 use Rattle.jj_trees.specs.WrittenTrees.{AddsTrees}
 use Rattle.jj_trees.specs.PathTries.{AreStored}

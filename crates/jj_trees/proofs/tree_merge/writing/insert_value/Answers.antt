@@ -1,4 +1,4 @@
-use Rattle.std.proofs.Common.{◌≡◌, ◌≢◌, inl, inr, [], ◌∷◌, ◌++◌, true, false, sym, ap, subst, ◌∙◌}
+use Rattle.std.proofs.Common.{◌≡◌, inl, inr, [], ◌∷◌, ◌++◌, true, false, sym, subst, ◌∙◌}
 use Rattle.jj_paths.specs.Names.{path_of}
 use Rattle.jj_paths.specs.Tree.{value_at}
 use Rattle.jj_backend.specs.declared.backend.tree_value.TreeValue.{TreeValue}

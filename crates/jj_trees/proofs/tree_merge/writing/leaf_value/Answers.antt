@@ -1,4 +1,4 @@
-use Rattle.std.proofs.Common.{◌≡◌, ◌∙◌, inl, inr, sym}
+use Rattle.std.proofs.Common.{◌∙◌, inl, inr, sym}
 use Rattle.jj_trees.proofs.TrieValues.{full_node}
 use Rattle.jj_trees.proofs.tree_merge.writing.leaf_value.Goals as goal
 
