@@ -1,0 +1,4 @@
+pub mod Digests
+pub mod EntryErrors
+pub mod StoredObjects
+pub mod ReplayedEntries

@@ -1,0 +1,26 @@
+//! Replaying a log of written objects into an in-memory backend.
+ghost use Rattle.std.specs.Prelude.{IfOk, IfErr};
+ghost use Rattle.jj_replay.specs.Replays.{IsReplay, IsReplayError};
+
+use crate::entries::write_entry;
+use crate::error::ReplayError;
+use jj_mirror::object_log::LogEntry;
+use jj_trees::memory_backend::MemoryBackend;
+use std::alloc::Global;
+
+/// Creates a backend with whole digests as ids and stores the object of each entry, in order. The
+/// error is that of the first entry that fails. Linear in the bytes of the entries, apart from the
+/// look-ups of ids.
+#[tactic(auto, using(crate::proofs::ReplayedEntries::replay_more, crate::proofs::ReplayedEntries::replay_error))]
+pub fn replay(alloc: Global, entries: &[LogEntry]) -> Result<MemoryBackend, ReplayError>
+    // The backend stores the objects of these entries under their ids, and no others besides the
+    // initial objects of a new backend.
+    ensures ok { IfOk result (IsReplay entries.now) }
+    ensures error { IfErr result (IsReplayError entries.now) }
+{
+    let mut backend = MemoryBackend::new(alloc)?;
+    for entry in entries {
+        write_entry(alloc, &mut backend, entry)?;
+    }
+    Ok(backend)
+}
