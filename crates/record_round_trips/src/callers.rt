@@ -7,10 +7,11 @@ ghost use Rattle.jj_decode.specs.Decoding.{DecodesTo};
 ghost use Rattle.jj_paths.specs.Orders.{path_eq};
 ghost use Rattle.jj_stores.specs.RefTargetLaws.{remote_ref_eq};
 ghost use Rattle.jj_stores.specs.ViewLaws.{remote_view_eq, view_eq};
-ghost use Rattle.jj_stores.specs.OperationLaws.{operation_eq};
+ghost use Rattle.jj_stores.specs.OperationLaws.{range_eq, metadata_eq, operation_eq};
 
 use jj_backend::backend::{
-    Commit, CommitId, CopyHistory, SecureSig, Signature, Timestamp, Tree, TreeId,
+    Commit, CommitId, CopyHistory, MillisSinceEpoch, SecureSig, Signature, Timestamp, Tree, TreeId,
+    TreeValue,
 };
 use jj_content::content_hash::content_of;
 use jj_decode::decode::decode_content;
@@ -18,7 +19,9 @@ use jj_decode::error::DecodeError;
 use jj_ids::ref_name::RefNameBuf;
 use jj_merges::merge::Merge;
 use jj_paths::repo_path::{RepoPathBuf, RepoPathComponentBuf};
-use jj_stores::op_store::{Operation, RemoteRef, RemoteView, View};
+use jj_stores::op_store::{
+    Operation, OperationMetadata, RemoteRef, RemoteRefState, RemoteView, TimestampRange, View,
+};
 use std::alloc::Global;
 
 /// Encodes and decodes an id.
@@ -64,6 +67,17 @@ pub fn decode_merge(alloc: Global, merge: &Merge<TreeId>) -> Result<Merge<TreeId
     decode_content(alloc, &bytes)
 }
 
+/// Encodes and decodes the milliseconds of a timestamp.
+pub fn decode_millis(
+    alloc: Global,
+    millis: &MillisSinceEpoch,
+) -> Result<MillisSinceEpoch, DecodeError>
+    ensures { DecodesTo (⟦<MillisSinceEpoch as PartialEq>⟧.eq millis.now) result }
+{
+    let bytes = content_of(alloc, millis)?;
+    decode_content(alloc, &bytes)
+}
+
 /// Encodes and decodes a timestamp.
 pub fn decode_timestamp(alloc: Global, time: &Timestamp) -> Result<Timestamp, DecodeError>
     ensures { DecodesTo (timestamp_eq time.now) result }
@@ -85,6 +99,14 @@ pub fn decode_secure_sig(alloc: Global, sig: &SecureSig) -> Result<SecureSig, De
     ensures { DecodesTo (secure_sig_eq sig.now) result }
 {
     let bytes = content_of(alloc, sig)?;
+    decode_content(alloc, &bytes)
+}
+
+/// Encodes and decodes the value of a tree entry.
+pub fn decode_tree_value(alloc: Global, value: &TreeValue) -> Result<TreeValue, DecodeError>
+    ensures { DecodesTo (⟦<TreeValue as PartialEq>⟧.eq value.now) result }
+{
+    let bytes = content_of(alloc, value)?;
     decode_content(alloc, &bytes)
 }
 
@@ -112,6 +134,14 @@ pub fn decode_commit(alloc: Global, commit: &Commit) -> Result<Commit, DecodeErr
     decode_content(alloc, &bytes)
 }
 
+/// Encodes and decodes whether a remote ref is tracked.
+pub fn decode_state(alloc: Global, state: &RemoteRefState) -> Result<RemoteRefState, DecodeError>
+    ensures { DecodesTo (⟦<RemoteRefState as PartialEq>⟧.eq state.now) result }
+{
+    let bytes = content_of(alloc, state)?;
+    decode_content(alloc, &bytes)
+}
+
 /// Encodes and decodes a remote ref.
 pub fn decode_remote_ref(alloc: Global, remote: &RemoteRef) -> Result<RemoteRef, DecodeError>
     ensures { DecodesTo (remote_ref_eq remote.now) result }
@@ -133,6 +163,25 @@ pub fn decode_view(alloc: Global, view: &View) -> Result<View, DecodeError>
     ensures { DecodesTo (view_eq view.now) result }
 {
     let bytes = content_of(alloc, view)?;
+    decode_content(alloc, &bytes)
+}
+
+/// Encodes and decodes the time range of an operation.
+pub fn decode_range(alloc: Global, range: &TimestampRange) -> Result<TimestampRange, DecodeError>
+    ensures { DecodesTo (range_eq range.now) result }
+{
+    let bytes = content_of(alloc, range)?;
+    decode_content(alloc, &bytes)
+}
+
+/// Encodes and decodes the metadata of an operation.
+pub fn decode_metadata(
+    alloc: Global,
+    metadata: &OperationMetadata,
+) -> Result<OperationMetadata, DecodeError>
+    ensures { DecodesTo (metadata_eq metadata.now) result }
+{
+    let bytes = content_of(alloc, metadata)?;
     decode_content(alloc, &bytes)
 }
 
