@@ -1,6 +1,6 @@
 //! Requests on merges of whole trees over a backend in memory. Files are `f` and a digit, trees `t`
 //! and a digit.
-ghost use Rattle.std.specs.Prelude.{◌≡◌, ◌⊎◌, [], length, IsTrue, IfSome};
+ghost use Rattle.std.specs.Prelude.{◌≡◌, ◌⊎◌, [], length, IsTrue, IfOk, IfSome};
 ghost use Rattle.std.specs.FinMap.{is_sorted};
 ghost use Rattle.jj_paths.specs.Paths.{name_cmp};
 
@@ -12,13 +12,16 @@ use jj_merges::conflict_labels::ConflictLabels;
 use jj_merges::merge::{Diff, Merge, SameChange};
 use jj_paths::repo_path::{RepoPath, RepoPathComponentBuf};
 use jj_trees::memory_backend::MemoryBackend;
-use jj_trees::tree_merge::{TreeMerge, merge_trees, merge_trees_within};
+use jj_trees::tree_merge::{TreeMerge, merge_trees, merge_trees_within, write_back};
 use rows::request::{Fields, Request};
 use rows::row_error::{RowError, needs};
 use rows::values::Values;
 use std::alloc::{AllocError, Global};
 use std::cmp::Ordering;
 use std::num::NonZeroUsize;
+
+// The number of levels of subtrees that are listed.
+const LISTED_LEVELS: usize = 8;
 
 type Entries = Vec<(RepoPathComponentBuf, TreeValue)>;
 
@@ -361,10 +364,95 @@ fn tree_merge(alloc: Global, request: &Request, values: &mut Values) -> Result<(
     put_merge(alloc, request, &backend, &trees, values)
 }
 
+// The term of a conflict with this index, a digit; `-` is an absent value.
+fn chosen_value(terms: &[Option<TreeValue>], index: u8) -> Result<Option<TreeValue>, RowError> {
+    if index == b'-' {
+        return Ok(None);
+    }
+    match terms.get(index.wrapping_sub(b'0') as usize) {
+        Some(term) => Ok(term.clone()?),
+        None => Err(RowError::Unreadable("index of a term")),
+    }
+}
+
+// The terms of the conflicts with these indices.
+fn chosen_values(
+    alloc: Global,
+    merge: &TreeMerge,
+    indices: &[u8],
+) -> Result<Vec<Option<TreeValue>>, RowError>
+    ensures { IfOk result (λ chosen. length chosen.items ≡ length merge.now.conflicts.items) }
+{
+    if indices.len() != merge.conflicts.len() {
+        return Err(RowError::Precondition("a term for each conflict"));
+    }
+    let mut chosen = Vec::with_capacity(alloc, indices.len())?;
+    for i in 0..indices.len() {
+        chosen.push(chosen_value(merge.conflicts[i].1.as_slice(), indices[i])?)?;
+    }
+    Ok(chosen)
+}
+
+// Writes each entry of a tree as `path=VALUE`, and a subtree as `path/` before its entries.
+fn list_tree(
+    alloc: Global,
+    backend: &MemoryBackend,
+    dir: RepoPath<'_>,
+    id: &TreeId,
+    levels: usize,
+    values: &mut Values,
+) -> Result<(), RowError> {
+    let tree = expect_ok(backend.read_tree(alloc, dir, id))?;
+    for entry in tree.entries() {
+        let path = dir.join(alloc, entry.name())?;
+        values.string(path.as_path().as_internal_file_string());
+        match entry.value() {
+            TreeValue::Tree(id) if levels > 0 => {
+                values.append(b"/");
+                list_tree(alloc, backend, path.as_path(), id, levels - 1, values)?;
+            }
+            value => {
+                values.append(b"=");
+                append_value(alloc, backend, &[], value, values)?;
+            }
+        }
+    }
+    Ok(())
+}
+
+// SAME_CHANGE LEVELS ROOTS TERMS | .. | LABELS
+fn put_written(
+    alloc: Global,
+    request: &Request,
+    backend: &mut MemoryBackend,
+    trees: &[(u8, TreeId)],
+    values: &mut Values,
+) -> Result<(), RowError> {
+    let fields = request.group(0);
+    let same_change = parse_same_change(fields.string(0))?;
+    let labels = labels_of(alloc, request.group(2))?;
+    let roots = roots_of(alloc, trees, fields.bytes(2))?;
+    let levels = fields.index(1);
+    let merged = merge_labeled(alloc, backend, &roots, &labels, same_change, levels)?;
+    let merge = expect_ok(merged)?;
+    let chosen = chosen_values(alloc, &merge, fields.bytes(3))?;
+    let id = expect_ok(write_back(alloc, backend, &merge, &chosen))?;
+    list_tree(alloc, backend, RepoPath::root(), &id, LISTED_LEVELS, values)
+}
+
+// `write-back SAME_CHANGE LEVELS ROOTS TERMS | TREE .. | LABELS`: the tree that the merge is
+// written as, where TERMS is the index of a term for each conflict, or `-` to remove its path.
+fn write_merge_back(alloc: Global, request: &Request, values: &mut Values) -> Result<(), RowError> {
+    let mut backend = MemoryBackend::new(alloc)?;
+    let trees = write_trees(alloc, &mut backend, request.group(1))?;
+    put_written(alloc, request, &mut backend, &trees, values)
+}
+
 /// Runs the request of this name. Returns `false` if there is none.
 pub fn call(alloc: Global, name: &str, request: &Request, values: &mut Values) -> bool {
     let called = match name {
         "tree-merge" => tree_merge(alloc, request, values),
+        "write-back" => write_merge_back(alloc, request, values),
         _ => return false,
     };
     values.record(called);
