@@ -192,9 +192,8 @@ fn write_directory<B: Backend>(
 /// names in total.
 ///
 /// Fails with `Other` of kind `Data` if a path with a value is the root, or is at, above or below
-/// another one; the paths of `merge_trees` never are. Fails with `Unsupported` if a path has more
-/// than 1,024 names, and with any error of `write_tree`. Trees that were written before an error
-/// stay in the backend.
+/// another one, with `Unsupported` if a path has more than 1,024 names, and with any error of
+/// `write_tree`. Trees that were written before an error stay in the backend.
 pub fn write_back<B: Backend>(
     alloc: Global,
     backend: &mut B,
