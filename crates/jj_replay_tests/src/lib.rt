@@ -1,0 +1,4 @@
+//! Proved callers of `jj_replay`.
+#![tactic(auto)]
+
+pub mod callers;
