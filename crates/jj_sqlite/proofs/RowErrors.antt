@@ -7,7 +7,7 @@ use Rattle.sqlite.specs.Order.{Row}
 use Rattle.jj_mirror.specs.Entries.{LogEntryValue}
 use Rattle.jj_sqlite.specs.Rows.{IsGoodRow, IsRowError, IsReadError}
 use Rattle.jj_sqlite.specs.declared.error.OpenError.{OpenError}
-use Rattle.jj_sqlite.specs.declared.error.OpenError.TheVariants.{Memory, Sqlite, WrongObject, UnknownKind}
+use Rattle.jj_sqlite.specs.declared.error.OpenError.TheVariants.{Memory, Sqlite, WrongObject, UnknownKind, Malformed, Backend}
 
 -- an error of SQLite is no wrong object
 pub converted : (row : Row) (cause : Error) (e : OpenError) → (e ≡ Memory) ⊎ (e ≡ Sqlite cause) → IsRowError row e
@@ -21,6 +21,8 @@ read_error rows index row entries Memory at good wrong = tt
 read_error rows index row entries (Sqlite cause) at good wrong = tt
 read_error rows index row entries (WrongObject kind id) at good wrong = (index, row, entries, at, good, wrong)
 read_error rows index row entries (UnknownKind id) at good wrong = tt
+read_error rows index row entries (Malformed kind id reason offset) at good wrong = tt
+read_error rows index row entries (Backend error) at good wrong = tt
 
 push : (rows : List Row) (entries : List LogEntryValue) (row : Row) (entry : LogEntryValue) → AllZip IsGoodRow rows entries → IsGoodRow row entry
     → AllZip IsGoodRow (rows ++ row ∷ []) (entries ++ entry ∷ [])

@@ -1,2 +1,3 @@
 pub mod Inserts
 pub mod Rows
+pub mod Opening

@@ -1,5 +1,8 @@
 //! Errors of opening a backend.
+use jj_backend::backend::BackendError;
+use jj_decode::error::Malformation;
 use jj_mirror::object_log::ObjectKind;
+use jj_replay::error::ReplayError;
 use sqlite::ErrorCode;
 use std::alloc::{AllocError, AllocFailed};
 use thiserror::Error;
@@ -14,10 +17,27 @@ pub enum OpenError {
     Sqlite(sqlite::Error),
     /// An entry whose id is not the digest of its object.
     #[error("an object of the log is not the one that its id names")]
-    WrongObject { kind: ObjectKind, id: Vec<u8> },
+    WrongObject {
+        kind: ObjectKind,
+        id: Vec<u8>,
+    },
     /// An entry whose kind is unknown.
     #[error("the log has an object of an unknown kind")]
-    UnknownKind { id: Vec<u8> },
+    UnknownKind {
+        id: Vec<u8>,
+    },
+    /// An entry whose bytes are not the content of an object of its kind, or the target of a
+    /// symbolic link that is not UTF-8. `offset` counts bytes from the start.
+    #[error("an object of the log is malformed at {offset}: {reason}")]
+    Malformed {
+        kind: ObjectKind,
+        id: Vec<u8>,
+        reason: Malformation,
+        offset: usize,
+    },
+    /// An entry of a commit without parents, or of an object whose digest a different object has.
+    #[error("{0}")]
+    Backend(BackendError),
 }
 
 impl From<AllocError> for OpenError {
@@ -53,6 +73,32 @@ impl From<sqlite::Error> for OpenError {
             OpenError::Memory
         } else {
             OpenError::Sqlite(error)
+        }
+    }
+}
+
+impl From<ReplayError> for OpenError {
+    ghost use Rattle.std.specs.Prelude.{◌≡◌};
+    ghost use Rattle.jj_sqlite.specs.Opening.{open_error};
+
+    ghost from_gives = { λ cause error. error ≡ open_error cause };
+
+    fn from(error: ReplayError) -> Self {
+        match error {
+            ReplayError::Memory => OpenError::Memory,
+            ReplayError::Malformed {
+                kind,
+                id,
+                reason,
+                offset,
+            } => OpenError::Malformed {
+                kind,
+                id,
+                reason,
+                offset,
+            },
+            ReplayError::WrongObject { kind, id } => OpenError::WrongObject { kind, id },
+            ReplayError::Backend(error) => OpenError::Backend(error),
         }
     }
 }

@@ -3,3 +3,4 @@
 
 pub mod error;
 pub mod sqlite_log;
+pub mod store;

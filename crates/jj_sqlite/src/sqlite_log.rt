@@ -1,5 +1,5 @@
 //! A log of written objects in a table of an SQLite database.
-ghost use Rattle.std.specs.Prelude.{◌≡◌, ◌⊎◌, [], List, IfOk, IfErr};
+ghost use Rattle.std.specs.Prelude.{◌≡◌, ◌⊎◌, [], List, IfOk, IfErr, OnOk};
 ghost use Rattle.std.specs.List.{AllZip};
 ghost use Rattle.sqlite.specs.Held.{state};
 ghost use Rattle.sqlite.specs.Order.{Row};
@@ -9,6 +9,7 @@ ghost use Rattle.jj_mirror.specs.Logs.{Appends, Keeps};
 ghost use Rattle.jj_sqlite.specs.Inserts.{HasInserted, MayFailToInsert, entry_row, insert_statement};
 ghost use Rattle.jj_sqlite.specs.Rows.{IsEntryRow, IsGoodRow, IsRowError, IsReadError};
 ghost use Rattle.jj_sqlite.specs.Rows.{select_statement};
+ghost use Rattle.jj_sqlite.specs.Opening.{IsCreated};
 
 use crate::error::OpenError;
 use jj_backend::backend::{BackendError, BackendResult};
@@ -25,7 +26,10 @@ pub struct SqliteLog<S: Alter + Drop> {
 
 impl<S: Alter + Drop> SqliteLog<S> {
     /// Opens the log of a database, and creates its table if there is none.
-    pub fn over(mut conn: Connection<S>) -> Result<Self, OpenError> {
+    pub fn over(mut conn: Connection<S>) -> Result<Self, OpenError>
+        ensures { IfOk result (λ log. HasCleanDisk (state S.Store log.conn)
+            → IsCreated S.Store conn log.conn) }
+    {
         create_table(&mut conn)?;
         Ok(SqliteLog { conn })
     }
@@ -33,10 +37,13 @@ impl<S: Alter + Drop> SqliteLog<S> {
     /// Reads the entries, the oldest first. Fails with `WrongObject` at the first entry whose id is
     /// not the digest of its object.
     pub fn read_entries(&mut self, alloc: Global) -> Result<Vec<LogEntry>, OpenError>
-        ensures { HasCleanDisk (state S.Store self.new.conn) → IfOk result (λ entries.
+        ensures rows { HasCleanDisk (state S.Store self.new.conn) → IfOk result (λ entries.
             (rows : List Row) × AllZip IsGoodRow rows entries.items
             × Shown select_statement [] (state S.Store self.old.conn) (state S.Store self.new.conn)
             rows) }
+        // The disk has never returned other bytes than were written to it, if it has not now.
+        ensures clean { HasCleanDisk (state S.Store self.new.conn)
+            → HasCleanDisk (state S.Store self.old.conn) }
     {
         let rows = select_rows(&mut self.conn)?;
         entries_from_rows(alloc, &rows)
@@ -49,7 +56,10 @@ impl<S: Alter + Drop> SqliteLog<S> {
     }
 }
 
-fn create_table<S: Alter>(conn: &mut Connection<S>) -> Result<(), Error> {
+fn create_table<S: Alter>(conn: &mut Connection<S>) -> Result<(), Error>
+    ensures { HasCleanDisk (state S.Store conn.new)
+        → OnOk result (IsCreated S.Store conn.old conn.new) }
+{
     conn.execute(
         "CREATE TABLE IF NOT EXISTS object_log (seq INTEGER PRIMARY KEY, kind TEXT NOT NULL, id BLOB NOT NULL, bytes BLOB NOT NULL) STRICT",
         &[],
@@ -58,8 +68,9 @@ fn create_table<S: Alter>(conn: &mut Connection<S>) -> Result<(), Error> {
 }
 
 fn select_rows<S: Alter>(conn: &mut Connection<S>) -> Result<Vec<Row>, Error>
-    ensures { HasCleanDisk (state S.Store conn.new) → IfOk result (λ rows. Shown select_statement []
-        (state S.Store conn.old) (state S.Store conn.new) rows.items) }
+    ensures clean { HasCleanDisk (state S.Store conn.new) → HasCleanDisk (state S.Store conn.old) }
+    ensures rows { HasCleanDisk (state S.Store conn.new) → IfOk result (λ rows.
+        Shown select_statement [] (state S.Store conn.old) (state S.Store conn.new) rows.items) }
 {
     conn.query_all("SELECT kind, id, bytes FROM object_log ORDER BY seq", &[])
 }
