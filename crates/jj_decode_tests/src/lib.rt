@@ -5,4 +5,10 @@ pub mod callers;
 #[cfg(test)]
 mod error_tests;
 #[cfg(test)]
+mod record_error_tests;
+#[cfg(test)]
+mod record_tests;
+#[cfg(test)]
+mod records;
+#[cfg(test)]
 mod value_tests;
