@@ -1,14 +1,17 @@
 //! Proved callers of the in-memory backend and of recursive tree merges.
-ghost use Rattle.std.specs.Prelude.{◌≡◌, ◌↔◌, ◌⊎◌, ℕ, List, [], length, Option, AllPairs};
+ghost use Rattle.std.specs.Prelude.{◌≡◌, ◌↔◌, ◌⊎◌, ℕ, List, [], length, Option, Some, AllPairs};
 ghost use Rattle.std.specs.Prelude.{Contains, IfOk, IfErr, string_bytes};
 ghost use Rattle.jj_merges.specs.Merge.{HaveSameCounts, IsDisjoint};
 ghost use Rattle.jj_merges.specs.declared.merge.SameChange.TheVariants.{Accept};
 ghost use Rattle.jj_backend.specs.declared.backend.tree_value.TreeValue.{TreeValue};
+ghost use Rattle.jj_backend.specs.declared.backend.tree_value.TreeValue.TheVariants.{Tree as SubTree};
 ghost use Rattle.jj_paths.specs.Paths.{Path};
 ghost use Rattle.jj_trees.specs.MemoryObjects.{objects_of};
 ghost use Rattle.jj_trees.specs.TreeMerges.{IsConflict, IsResolved, root_values, values_at};
+ghost use Rattle.jj_trees.specs.WrittenTrees.{stored_at};
 ghost use Rattle.jj_trees_tests.specs.Writes.{IsWriteError};
 
+use crate::three_sides::side_values;
 use jj_backend::backend::{
     Backend, BackendResult, Commit, CopyHistory, SigningFn, Tree, TreeId, TreeValue,
 };
@@ -17,7 +20,7 @@ use jj_merges::laws::simplified_indices_laws;
 use jj_merges::merge::{Merge, SameChange};
 use jj_paths::repo_path::{RepoPath, RepoPathBuf};
 use jj_trees::memory_backend::MemoryBackend;
-use jj_trees::tree_merge::{TreeMerge, merge_trees};
+use jj_trees::tree_merge::{TreeMerge, merge_trees, write_back};
 use std::alloc::Global;
 use std::cmp::Ordering;
 
@@ -56,6 +59,24 @@ pub fn conflicts<B: Backend>(
     let labels = ConflictLabels::unlabeled(alloc);
     let merged = merge_trees(alloc, backend, trees, &labels, SameChange::Accept)?;
     Ok(merged.conflicts)
+}
+
+/// Merges trees of an in-memory backend and writes the result back, with the first side of each
+/// conflict: the written tree has, at each path that resolves to a value, that value.
+pub fn merge_and_write(
+    alloc: Global,
+    backend: &mut MemoryBackend,
+    trees: &Merge<TreeId>,
+) -> BackendResult<TreeId>
+    ensures { IfOk result (λ id. (path : Path) (value : TreeValue) →
+        IsResolved (objects_of backend.old).trees ⟦<Option<TreeValue> as PartialEq>⟧.eq Accept
+        (root_values trees.now) path value
+        → stored_at (objects_of backend.new).trees (Some (SubTree id)) path ≡ Some value) }
+{
+    let labels = ConflictLabels::unlabeled(alloc);
+    let merge = merge_trees(alloc, backend, trees, &labels, SameChange::Accept)?;
+    let chosen = side_values(alloc, &merge, 0)?;
+    write_back(alloc, backend, &merge, &chosen)
 }
 
 /// Writes a file and reads it back.

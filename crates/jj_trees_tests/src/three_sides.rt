@@ -1,6 +1,6 @@
 //! A three-way merge of a directory of files: its description, and its conflicts written back as
 //! trees.
-ghost use Rattle.std.specs.Prelude.{◌≡◌, ◌↔◌, ℕ, List, Option, AllPairs, Contains, IfOk};
+ghost use Rattle.std.specs.Prelude.{◌≡◌, ◌↔◌, ℕ, List, Option, AllPairs, Contains, IfOk, length};
 ghost use Rattle.jj_merges.specs.declared.merge.SameChange.TheVariants.{Accept};
 ghost use Rattle.jj_backend.specs.declared.backend.tree_value.TreeValue.{TreeValue};
 ghost use Rattle.jj_paths.specs.Paths.{Path};
@@ -16,7 +16,7 @@ use jj_merges::conflict_labels::ConflictLabels;
 use jj_merges::merge::{Merge, SameChange};
 use jj_paths::repo_path::{RepoPath, RepoPathBuf, RepoPathComponentBuf};
 use jj_trees::memory_backend::MemoryBackend;
-use jj_trees::tree_merge::TreeMerge;
+use jj_trees::tree_merge::{self, TreeMerge};
 use std::alloc::{AllocError, Global};
 use std::cmp::Ordering;
 
@@ -105,70 +105,34 @@ pub fn describe(alloc: Global, merge: &TreeMerge) -> Result<String, AllocError> 
     Ok(text)
 }
 
-// Returns the entry of a path with a single name.
-fn entry_at(
+/// Returns the term of one side at each conflict, `None` if there is no such side.
+pub fn side_values(
     alloc: Global,
-    path: &RepoPathBuf,
-    value: &TreeValue,
-) -> BackendResult<(RepoPathComponentBuf, TreeValue)> {
-    match path.as_path().components().next() {
-        Some(name) => Ok((name.to_owned(alloc)?, value.clone()?)),
-        None => Err(bad_data(alloc, "the root has no name")),
-    }
-}
-
-type Entries = Vec<(RepoPathComponentBuf, TreeValue)>;
-
-fn add_resolved(
-    alloc: Global,
-    resolved: &[(RepoPathBuf, TreeValue)],
-    entries: &mut Entries,
-) -> BackendResult<()> {
-    for (path, value) in resolved {
-        entries.push(entry_at(alloc, path, value)?)?;
-    }
-    Ok(())
-}
-
-// Adds the term of one side, if it is present.
-fn add_term(
-    alloc: Global,
-    path: &RepoPathBuf,
-    terms: &[Option<TreeValue>],
+    merge: &TreeMerge,
     side: usize,
-    entries: &mut Entries,
-) -> BackendResult<()> {
-    if let Some(Some(value)) = terms.get(side) {
-        entries.push(entry_at(alloc, path, value)?)?;
+) -> Result<Vec<Option<TreeValue>>, AllocError>
+    ensures { IfOk result (λ values. length values.items ≡ length merge.now.conflicts.items) }
+{
+    let mut values = Vec::with_capacity(alloc, merge.conflicts.len())?;
+    for (_, terms, _) in &merge.conflicts {
+        let value = match terms.as_slice().get(side) {
+            Some(term) => term.clone()?,
+            None => None,
+        };
+        values.push(value)?;
     }
-    Ok(())
+    Ok(values)
 }
 
-fn sort_entries(mut entries: Entries) -> Result<Entries, AllocError> {
-    entries.sort_by(|a, b| a.0.cmp(&b.0))?;
-    Ok(entries)
-}
-
-// Returns the entries of one side: the resolved values and its terms of the conflicts.
-fn side_entries(alloc: Global, merge: &TreeMerge, side: usize) -> BackendResult<Entries> {
-    let mut entries = Vec::new(alloc);
-    add_resolved(alloc, &merge.resolved, &mut entries)?;
-    for (path, terms, _) in merge.conflicts.iter() {
-        add_term(alloc, path, terms.as_slice(), side, &mut entries)?;
-    }
-    Ok(sort_entries(entries)?)
-}
-
-/// Writes the directory of one side of a merge: the resolved values and its terms of conflicts.
+/// Writes the tree of one side of a merge: the resolved values and its terms of conflicts.
 pub fn write_side(
     alloc: Global,
     backend: &mut MemoryBackend,
     merge: &TreeMerge,
     side: usize,
 ) -> BackendResult<TreeId> {
-    let entries = side_entries(alloc, merge, side)?;
-    let tree = ascending_tree(alloc, entries)?;
-    backend.write_tree(alloc, RepoPath::root(), &tree)
+    let chosen = side_values(alloc, merge, side)?;
+    tree_merge::write_back(alloc, backend, merge, &chosen)
 }
 
 /// Writes the sides of a merge of three terms as three directories, which merge to the same result.
