@@ -1,4 +1,6 @@
-//! Proved callers of `jj_replay`.
+//! Proved callers and tests of `jj_replay`.
 #![tactic(auto)]
 
 pub mod callers;
+#[cfg(test)]
+mod replay_tests;
