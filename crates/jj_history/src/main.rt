@@ -1,0 +1,77 @@
+//! The program `jj-history`: two branches of a small tree in an SQLite database, and their merge.
+#![tactic(auto)]
+
+mod branches;
+mod drawing;
+mod fault;
+mod merging;
+
+use crate::branches::write_branches;
+use crate::fault::Fault;
+use crate::merging::merge_branches;
+use jj_backend::backend::Backend;
+use jj_ids::object_id::CommitId;
+use jj_sqlite::store::open_store;
+use sqlite::Connection;
+use std::alloc::Global;
+use std::env;
+use std::process::ExitCode;
+
+const USAGE: u8 = 2;
+
+// Runs a command, given by the words after the name of the database. Returns what it prints, or
+// `None` if there is no such command.
+fn run<B: Backend>(
+    alloc: Global,
+    store: &mut B,
+    words: &[String],
+) -> Result<Option<String>, Fault> {
+    match words {
+        [command] if command.as_str() == "write" => Ok(Some(write_branches(alloc, store)?)),
+        [command, left, right] if command.as_str() == "merge" => {
+            let left = CommitId::try_from_hex(alloc, left.as_str())?;
+            let right = CommitId::try_from_hex(alloc, right.as_str())?;
+            match (left, right) {
+                (Some(left), Some(right)) => Ok(Some(merge_branches(alloc, store, left, right)?)),
+                _ => Err(Fault::NotHex),
+            }
+        }
+        _ => Ok(None),
+    }
+}
+
+fn run_on_file(rt: &HostRuntime, words: &[String]) -> Result<Option<String>, Fault> {
+    let [file, command @ ..] = words else {
+        return Ok(None);
+    };
+    let conn = Connection::open(rt, file.as_str())?;
+    let mut store = open_store(rt.alloc(), conn)?;
+    run(rt.alloc(), &mut store, command)
+}
+
+fn words(rt: &HostRuntime) -> Option<Vec<String>> {
+    env::args(rt).ok()?.skip(1).collect(rt.alloc()).ok()
+}
+
+fn main(rt: HostRuntime) -> ExitCode {
+    let Some(words) = words(&rt) else {
+        let _ = eprintln!(rt; "jj-history: out of memory");
+        return ExitCode::FAILURE;
+    };
+    match run_on_file(&rt, &words) {
+        Ok(Some(output)) => match print!(rt; "{output}") {
+            Ok(()) => ExitCode::SUCCESS,
+            Err(_) => ExitCode::FAILURE,
+        },
+        Ok(None) => {
+            let _ = eprintln!(rt;
+                "usage: jj-history DATABASE write | jj-history DATABASE merge LEFT RIGHT"
+            );
+            ExitCode::from(USAGE)
+        }
+        Err(fault) => {
+            let _ = eprintln!(rt; "jj-history: {fault}");
+            ExitCode::FAILURE
+        }
+    }
+}
