@@ -77,7 +77,7 @@ fn write_commit<B: Backend>(
     Ok(id)
 }
 
-/// Writes a commit and two children of it, each with its tree. Returns lines of a name and an id.
+// Writes a commit and two children of it, each with its tree. Returns lines of a name and an id.
 pub(crate) fn write_branches<B: Backend>(alloc: Global, store: &mut B) -> Result<String, Fault> {
     let root = store.root_commit_id().clone()?;
     let tree = write_library(
@@ -118,7 +118,7 @@ pub(crate) fn write_branches<B: Backend>(alloc: Global, store: &mut B) -> Result
     Ok(output)
 }
 
-/// Appends a line of a word and an id.
+// Appends a line of a word and an id.
 pub(crate) fn push_id(
     alloc: Global,
     output: &mut String,

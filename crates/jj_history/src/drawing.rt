@@ -24,7 +24,7 @@ fn entry_of(alloc: Global, read: &ReadCommit) -> Result<Commit, Fault> {
     })
 }
 
-/// Draws a commit and its ancestors as a graph.
+// Draws a commit and its ancestors as a graph.
 pub(crate) fn draw_history<B: Backend>(
     alloc: Global,
     store: &B,

@@ -91,8 +91,8 @@ fn write_merge<B: Backend>(
     Ok(id)
 }
 
-/// Merges two commits by the trees of them and of their merge base, and writes a commit of the
-/// merge. Returns the paths of the merge, and the log from that commit.
+// Merges two commits by the trees of them and of their merge base, and writes a commit of the
+// merge. Returns the paths of the merge, and the log from that commit.
 pub(crate) fn merge_branches<B: Backend>(
     alloc: Global,
     store: &mut B,
