@@ -1,11 +1,11 @@
 //! Facade crate: re-exports the modules of all libraries.
 #![tactic(auto)]
 
+pub mod content_hash;
 pub mod laws;
 
 pub use jj_backend::backend;
-pub use jj_content::{blake2b, content_hash, hex_util, symbol_util};
-pub use jj_decode::{decode, read_content};
+pub use jj_content::{blake2b, hex_util, symbol_util};
 pub use jj_files::{file_util, fs_text};
 pub use jj_globs::glob;
 pub use jj_ids::{object_id, ref_name};
