@@ -61,10 +61,7 @@ fn parse_items<'a>(
                         ranges.push(ByteRange::one(b'-'))?;
                         return Ok((Class::new(negated, ranges), rest));
                     }
-                    bound => match byte_range(range.first, bound.byte()) {
-                        Ok(wider) => range = wider,
-                        Err(error) => return Err(error),
-                    },
+                    bound => range = byte_range(range.first, bound.byte())?,
                 }
             }
             item => {

@@ -42,12 +42,9 @@ fn parse_sequence(alloc: Global, text: &[u8]) -> Result<Vec<Token>, GlobError>
     while let Some((symbol, after)) = next_symbol(rest) {
         rest = after;
         match symbol {
-            Symbol::Asterisk => rest = parse_stars(
-                &mut tokens,
-                open_groups,
-                is_after_group,
-                after,
-            )?,
+            Symbol::Asterisk => {
+                rest = parse_stars(&mut tokens, open_groups, is_after_group, after)?;
+            }
             Symbol::CloseBrace if open_groups == 0 => return Err(GlobError::UnopenedAlternates),
             Symbol::CloseBrace => {
                 open_groups -= 1;
@@ -59,13 +56,11 @@ fn parse_sequence(alloc: Global, text: &[u8]) -> Result<Vec<Token>, GlobError>
                 open_groups += 1;
             }
             Symbol::Comma => push_comma(&mut tokens, open_groups)?,
-            symbol => match parse_part(alloc, symbol, after) {
-                Ok((part, after_part)) => {
-                    tokens.push(Token::Part(part))?;
-                    rest = after_part;
-                }
-                Err(error) => return Err(error),
-            },
+            symbol => {
+                let (part, after_part) = parse_part(alloc, symbol, after)?;
+                tokens.push(Token::Part(part))?;
+                rest = after_part;
+            }
         }
         is_after_group = false;
     }

@@ -1,4 +1,5 @@
 use Rattle.std.proofs.Common.{◌∙◌, arith, map, [], ◌∷◌, ap, sym, append_assoc}
+use Rattle.std.proofs.lemmas.Result.{err_from_is_err_and}
 use Rattle.jj_globs.specs.GlobSyntax.{symbol_of, single, first_item, items}
 use Rattle.jj_globs.specs.declared.glob.symbol.Symbol.TheVariants.{Dash}
 use Rattle.jj_globs.proofs.SymbolLists.{length-next}
@@ -53,20 +54,21 @@ loop-symbol-preserved c = record {
 pub returns-clause-parsed : goal.returns-clause-parsed
 returns-clause-parsed c = rw (c.loop-symbol.invariant.reads, c.in_default-next_symbol.ensures) (items-ended c.args.negated c.loop-symbol.ranges.items c.loop-symbol.range)
 
-pub loop-symbol-preserved-in-Ok : goal.loop-symbol-preserved-in-Ok
-loop-symbol-preserved-in-Ok c = record {
+pub loop-symbol-preserved-in_default-bound : goal.loop-symbol-preserved-in_default-bound
+loop-symbol-preserved-in_default-bound c = record {
   reads =
       items-range (first_item c.args.negated (map symbol_of c.args.text.now)) c.args.negated c.loop-symbol.ranges.items c.loop-symbol.range (map symbol_of c.loop-symbol.rest.now) (map symbol_of c.in-Some-next_symbol.after.now) c.in-Some-next_symbol.symbol c.in-Some-next_symbol-2.bound (map symbol_of c.in-Some-next_symbol-2.after.now) c.byte-in_default-bound.result
       c.loop-symbol.invariant.reads c.in-Some-next_symbol.ensures c.in-Dash.is c.in-Some-next_symbol-2.ensures c.in_default-bound.not-CloseBracket c.byte-in_default-bound.ensures
-      ∙ (c.in-Ok.ensures.1 _ ∙ ap (λ r. items c.args.negated c.loop-symbol.ranges.items r (map symbol_of c.in-Some-next_symbol-2.after.now)) (sym c.in-Ok.ensures.0));
+      ∙ (c.in_ok-range-in_default-bound.ensures.1 _ ∙ ap (λ r. items c.args.negated c.loop-symbol.ranges.items r (map symbol_of c.in-Some-next_symbol-2.after.now)) (sym c.in_ok-range-in_default-bound.ensures.0));
   shorter = omega (arith, c.loop-symbol.invariant.shorter, length-next c.loop-symbol.rest.now c.in-Some-next_symbol.after.now c.in-Some-next_symbol.symbol c.in-Some-next_symbol.ensures, length-next c.in-Some-next_symbol.after.now c.in-Some-next_symbol-2.after.now c.in-Some-next_symbol-2.bound c.in-Some-next_symbol-2.ensures);
 }
 
-pub returns-in-Err-clause-parsed : goal.returns-in-Err-clause-parsed
-returns-in-Err-clause-parsed c =
+pub returns-in_err-range-in_default-bound-clause-parsed : goal.returns-in_err-range-in_default-bound-clause-parsed
+returns-in_err-range-in_default-bound-clause-parsed c =
     let reads = items-range (first_item c.args.negated (map symbol_of c.args.text.now)) c.args.negated c.loop-symbol.ranges.items c.loop-symbol.range (map symbol_of c.loop-symbol.rest.now) (map symbol_of c.in-Some-next_symbol.after.now) c.in-Some-next_symbol.symbol c.in-Some-next_symbol-2.bound (map symbol_of c.in-Some-next_symbol-2.after.now) c.byte-in_default-bound.result
     c.loop-symbol.invariant.reads c.in-Some-next_symbol.ensures c.in-Dash.is c.in-Some-next_symbol-2.ensures c.in_default-bound.not-CloseBracket c.byte-in_default-bound.ensures in
-    rw reads (c.in-Err.ensures _)
+    let p = err_from_is_err_and c.from_residual-in_err-range-in_default-bound.result c.from_residual-in_err-range-in_default-bound.ensures.1 in
+    rw (reads, p.1, p.2) (c.in_err-range-in_default-bound.ensures _)
 
 pub returns-in-CloseBracket-clause-shorter : goal.returns-in-CloseBracket-clause-shorter
 returns-in-CloseBracket-clause-shorter c = omega (arith, c.loop-symbol.invariant.shorter, length-next c.loop-symbol.rest.now c.in-Some-next_symbol.after.now c.in-Some-next_symbol.symbol c.in-Some-next_symbol.ensures)
