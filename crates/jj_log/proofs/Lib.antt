@@ -10,3 +10,4 @@ mod VisibleItems
 mod Settling
 mod DrawnRows
 mod Interning
+mod ReadLines

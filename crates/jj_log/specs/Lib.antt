@@ -11,3 +11,5 @@ pub mod LogItems
 pub mod OkNumbers
 pub mod Numbering
 pub mod LogDrawings
+pub mod InputLines
+pub mod Runs

@@ -1,4 +1,13 @@
 //! Entry points of the program: read the whole input, draw its log, write the whole output.
+ghost use Rattle.std.specs.Prelude.{◌≡◌, ◌≢◌, ℕ, ◌<◌, false, List, IfOk, IfErr, OnOk, get_or, string_bytes};
+ghost use Rattle.std.specs.Io.KnownBytes.{Consumes, IsAtEnd};
+ghost use Rattle.jj_files.specs.Streams.{streams};
+ghost use Rattle.jj_log.specs.InputLines.{AreCommitsOf, DrawsInput};
+ghost use Rattle.jj_log.specs.LogDrawings.{IsLogError};
+ghost use Rattle.jj_log.specs.Runs.{FailsBy, IsInputFault, WritesLog, is_read_fault, is_write_fault};
+ghost use Rattle.jj_log.specs.declared.commits.Commit.{Commit};
+ghost use Rattle.jj_log.specs.declared.fault.Fault.{Fault};
+
 use crate::fault::{Fault, LineFault, LogError};
 use crate::input::parse_commits;
 use crate::log::draw_log;
@@ -8,7 +17,14 @@ use std::alloc::Global;
 
 const READ_BUFFER: usize = 65536;
 
-fn read_input<R: Source>(alloc: Global, reader: &mut R) -> Result<Vec<u8>, Fault> {
+fn read_input<R: Source>(alloc: Global, reader: &mut R) -> Result<Vec<u8>, Fault>
+    ensures all { IfOk result (λ input. Consumes (R.remaining reader.old)
+        (R.remaining reader.new) input.items) }
+    ensures end { OnOk result (IsAtEnd (R.remaining reader.new)) }
+    ensures failure { R.has_failed reader.old ≡ false
+        → R.has_failed reader.new ≡ is_read_fault result }
+    ensures faults { IfErr result (λ fault. fault ≢ Fault.ReadInput → fault ≡ Fault.Memory) }
+{
     let mut input = Vec::new(alloc);
     let mut buf = [0u8; READ_BUFFER];
     loop {
@@ -24,14 +40,19 @@ fn read_input<R: Source>(alloc: Global, reader: &mut R) -> Result<Vec<u8>, Fault
     }
 }
 
-fn line_at(lines: &[usize], index: usize) -> usize {
+fn line_at(lines: &[usize], index: usize) -> usize
+    ensures { result ≡ get_or lines.now index 0 }
+{
     match lines.get(index) {
         Some(line) => *line,
         None => 0,
     }
 }
 
-fn fault_of(error: LogError, lines: &[usize]) -> Fault {
+fn fault_of(error: LogError, lines: &[usize]) -> Fault
+    ensures { (input : List ℕ) (commits : List Commit) → AreCommitsOf input commits lines.now
+        → IsLogError commits error → IsInputFault input result }
+{
     match error {
         LogError::Memory => Fault::Memory,
         LogError::RepeatedName(index) => Fault::Line {
@@ -45,7 +66,11 @@ fn fault_of(error: LogError, lines: &[usize]) -> Fault {
     }
 }
 
-fn output(alloc: Global, input: &[u8]) -> Result<String, Fault> {
+// Returns the drawing of the commits of the input.
+fn output(alloc: Global, input: &[u8]) -> Result<String, Fault>
+    ensures draws { IfOk result (λ drawing. DrawsInput input.now (string_bytes drawing)) }
+    ensures error { IfErr result (IsInputFault input.now) }
+{
     let Ok(input) = str::from_utf8(input) else {
         return Err(Fault::NotUtf8);
     };
@@ -59,7 +84,20 @@ fn output(alloc: Global, input: &[u8]) -> Result<String, Fault> {
 /// Reads the source to its end and writes the drawing of its commits. Fails where reading, writing,
 /// the UTF-8 of the input, a line of it or memory fails, and has then written nothing unless
 /// writing failed.
-pub fn run<R: Source, W: Sink>(alloc: Global, reader: &mut R, writer: &mut W) -> Result<(), Fault> {
+pub fn run<R: Source, W: Sink>(alloc: Global, reader: &mut R, writer: &mut W) -> Result<(), Fault>
+    ensures done { OnOk result (WritesLog
+        (streams (R.remaining reader.old) (W.contents writer.old))
+        (streams (R.remaining reader.new) (W.contents writer.new))) }
+    ensures unwritten { IfErr result (λ fault. fault ≢ Fault.WriteOutput
+        → W.contents writer.new ≡ W.contents writer.old) }
+    ensures fails { IfErr result (FailsBy
+        (streams (R.remaining reader.old) (W.contents writer.old))
+        (streams (R.remaining reader.new) (W.contents writer.new))) }
+    ensures read_failure { R.has_failed reader.old ≡ false
+        → R.has_failed reader.new ≡ is_read_fault result }
+    ensures write_failure { W.has_failed writer.old ≡ false
+        → W.has_failed writer.new ≡ is_write_fault result }
+{
     let input = read_input(alloc, reader)?;
     let output = output(alloc, &input)?;
     if write_all(writer, output.as_bytes()).is_err() {
@@ -83,7 +121,16 @@ pub fn start<R: Source, W: Sink, E: Sink>(
     reader: &mut R,
     writer: &mut W,
     errors: &mut E,
-) -> u8 {
+) -> u8
+    ensures status { result < 2 }
+    ensures success { result ≡ 0 → WritesLog
+        (streams (R.remaining reader.old) (W.contents writer.old))
+        (streams (R.remaining reader.new) (W.contents writer.new))
+        × (E.contents errors.new ≡ E.contents errors.old) }
+    ensures failure { result ≡ 1 → (fault : Fault) × FailsBy
+        (streams (R.remaining reader.old) (W.contents writer.old))
+        (streams (R.remaining reader.new) (W.contents writer.new)) fault }
+{
     match run(alloc, reader, writer) {
         Ok(()) => 0,
         Err(fault) => {

@@ -1,0 +1,28 @@
+use Rattle.std.proofs.Common.{◌≡◌, refl, lit<, MatchOption, string_bytes}
+use Rattle.jj_log.specs.InputLines.{IsCutAt, Lacks}
+use Rattle.jj_log.proofs.ReadLines.{cut_at, uncut, commit_line}
+use Rattle.jj_log.proofs.input.parse_line.Goals as goal
+use Rattle.jj_log.proofs.input.parse_line.Goals.{in-Some-split_once+in_ok-from_str-in-Some-split_once, in-None}
+
+pub returns-in_default-clause-error : goal.returns-in_default-clause-error
+returns-in_default-clause-error c = (refl, uncut 9 c.args.line.now c.split_once.result (lit< tt) c.split_once.ensures.cases c.in_default.is)
+
+pub returns-then-not-is_name-clause-error : goal.returns-then-not-is_name-clause-error
+returns-then-not-is_name-clause-error c =
+    let cut = cut_at 9 c.args.line.now c.split_once.result (c.in-Some.name, c.in-Some.fields) (lit< tt) c.split_once.ensures.cases c.in-Some.is in
+    (refl, (c.in-Some.name.now, c.in-Some.fields.now, cut, λ name. let good = c.is_name.ensures.1 name in let bad = c.if-not-is_name.true in absurd cc))
+
+pub returns-clause-commit : goal.returns-clause-commit
+returns-clause-commit c =
+    let fields = c.in-Some.fields.now in
+    let label = c.match-split_once-2.label in
+    let cut = cut_at 9 c.args.line.now c.split_once.result (c.in-Some.name, c.in-Some.fields) (lit< tt) c.split_once.ensures.cases c.in-Some.is in
+    let good = c.is_name.ensures.0 c.if-not-is_name.false in
+    let labelled : MatchOption label.1 ((label.0.now ≡ fields) × Lacks 9 fields) (λ l. IsCutAt 9 fields label.0.now (string_bytes l)) =
+    elim c.match-split_once-2.branch [
+      | in-Some-split_once+in_ok-from_str-in-Some-split_once w ↦
+          rw (w.label-is, w.in_ok-from_str-in-Some-split_once.ensures.ok)
+          (cut_at 9 fields c.split_once-2.result (w.in-Some-split_once.field, w.in-Some-split_once.label) (lit< tt) c.split_once-2.ensures.cases w.in-Some-split_once.is)
+      | in-None w ↦ rw w.label-is (refl, uncut 9 fields c.split_once-2.result (lit< tt) c.split_once-2.ensures.cases w.in-None.is)
+    ] in
+    commit_line c.args.line.now c.in-Some.name.now fields label.0.now c.in_ok-from_str.field-0 c.in_ok-parse_parents.field-0 label.1 cut good c.in_ok-from_str.ensures.ok c.in_ok-parse_parents.ensures labelled

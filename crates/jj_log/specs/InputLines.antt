@@ -1,0 +1,97 @@
+-- The lines of the input: commits with the names of their parents.
+-- Cited by contracts of public items: AreCommitsOf, IsParseFault.
+use Rattle.std.specs.Prelude.{◌≡◌, ℕ, ◌+◌, ◌==◌, Bool, true, false, not, List, [], ◌∷◌, ◌++◌}
+use Rattle.std.specs.Prelude.{All, Contains, MatchOption, filter, map, reverse, length, string_bytes}
+use Rattle.std.specs.List.{AllZip, slice_split}
+use Rattle.jj_log.specs.LogDrawings.{IsDrawing}
+use Rattle.jj_log.specs.declared.commits.Commit.{Commit}
+use Rattle.jj_log.specs.declared.fault.Fault.{Fault}
+use Rattle.jj_log.specs.declared.fault.Fault.TheVariants.{Memory, Line}
+use Rattle.jj_log.specs.declared.fault.LineFault.{LineFault}
+use Rattle.jj_log.specs.declared.fault.LineFault.TheVariants.{MissingParents, BadName}
+
+-- the byte is not in the string
+abbrev pub Lacks : ℕ → List ℕ → Type 0
+Lacks byte string = All (λ b. (b == byte) ≡ false) string
+
+-- the string is cut at its first such byte
+abbrev pub IsCutAt : ℕ → List ℕ → List ℕ → List ℕ → Type 0
+IsCutAt byte string before after = (string ≡ before ++ byte ∷ after) × Lacks byte before
+
+-- the parts between separators
+abbrev pub parts_of : ℕ → List ℕ → List (List ℕ)
+parts_of separator string = slice_split (λ b. b == separator) string
+
+abbrev pub is_nonempty : List ℕ → Bool
+is_nonempty string = not (length string == 0)
+
+-- the words of a string, separated by blanks
+abbrev pub words_of : List ℕ → List (List ℕ)
+words_of string = filter is_nonempty (parts_of 32 string)
+
+-- the string as a word, unless it is empty
+abbrev pub one_word : List ℕ → List (List ℕ)
+one_word string = filter is_nonempty (string ∷ [])
+
+-- a name is not empty and has no blank
+abbrev pub IsName : List ℕ → Type 0
+IsName string = (is_nonempty string ≡ true) × Lacks 32 string
+
+-- a line: name TAB parents, and TAB label if the commit is visible
+pub record IsCommitLine (line : List ℕ) (commit : Commit) : Type 0 where
+  pub fields : List ℕ
+  pub cut : IsCutAt 9 line (string_bytes commit.name) fields
+  pub name : IsName (string_bytes commit.name)
+  pub field : List ℕ
+  pub parents : map (λ parent. string_bytes parent) commit.parents.items ≡ words_of field
+  pub label : MatchOption commit.label ((field ≡ fields) × Lacks 9 fields)
+      (λ label. IsCutAt 9 fields field (string_bytes label))
+
+-- the line has no TAB, or no name before its first TAB
+abbrev pub IsBadLine : List ℕ → LineFault → Type 0
+IsBadLine line MissingParents = Lacks 9 line
+IsBadLine line BadName = (name fields : List ℕ) × IsCutAt 9 line name fields × (IsName name → ⊥)
+IsBadLine line fault = ⊥
+
+-- the fault is that of the line with this number, or memory ran out
+abbrev pub IsLineFault : ℕ → List ℕ → Fault → Type 0
+IsLineFault number line Memory = Unit {0}
+IsLineFault number line (Line at kind) = (at ≡ number) × IsBadLine line kind
+IsLineFault number line fault = ⊥
+
+-- a line with its number, unless it is empty
+abbrev pub numbered_line : ℕ → List ℕ → List (ℕ × List ℕ)
+numbered_line number [] = []
+numbered_line number (byte ∷ rest) = (number, byte ∷ rest) ∷ []
+
+-- the lines that are not empty, numbered from a number
+abbrev pub numbered_lines : ℕ → List (List ℕ) → List (ℕ × List ℕ)
+numbered_lines number [] = []
+numbered_lines number (line ∷ lines) =
+    numbered_line number line ++ numbered_lines (number + 1) lines
+
+-- the lines of the input that are not empty, numbered from 1
+abbrev pub commit_lines : List ℕ → List (ℕ × List ℕ)
+commit_lines input = numbered_lines 1 (parts_of 10 input)
+
+-- the commits of the lines that are not empty, the last first, and the numbers of these lines
+pub record AreCommitsOf (input : List ℕ) (commits : List Commit) (numbers : List ℕ)
+    : Type 0 where
+  pub lines : AllZip IsCommitLine (map (λ l. l.1) (commit_lines input)) (reverse commits)
+  pub numbered : reverse numbers ≡ map (λ l. l.0) (commit_lines input)
+
+-- the fault is that of one of these lines, or memory ran out
+abbrev pub IsFaultOf : List (ℕ × List ℕ) → Fault → Type 0
+IsFaultOf lines Memory = Unit {0}
+IsFaultOf lines (Line number kind) = (line : List ℕ) × Contains lines (number, line)
+    × IsBadLine line kind
+IsFaultOf lines fault = ⊥
+
+-- a line of the input has the fault, or memory ran out
+abbrev pub IsParseFault : List ℕ → Fault → Type 0
+IsParseFault input fault = IsFaultOf (commit_lines input) fault
+
+-- the drawing of the commits of the input
+abbrev pub DrawsInput : List ℕ → List ℕ → Type 0
+DrawsInput input drawing = (commits : List Commit) × (numbers : List ℕ)
+    × AreCommitsOf input commits numbers × IsDrawing commits drawing

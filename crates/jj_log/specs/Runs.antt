@@ -1,0 +1,51 @@
+-- Runs of the program, and the causes of their errors.
+-- Cited by contracts of public items: FailsBy, WritesLog, is_read_fault, is_write_fault.
+use Rattle.std.specs.Prelude.{◌≡◌, ℕ, Bool, true, false, List, get_or, Result, Err}
+use Rattle.std.specs.Io.KnownBytes.{Appends, Consumes, IsAtEnd}
+use Rattle.std.specs.Str.{IsUtf8}
+use Rattle.jj_files.specs.Streams.{Streams}
+use Rattle.jj_log.specs.InputLines.{AreCommitsOf, DrawsInput, IsParseFault}
+use Rattle.jj_log.specs.LogDrawings.{IsLogError}
+use Rattle.jj_log.specs.declared.commits.Commit.{Commit}
+use Rattle.jj_log.specs.declared.fault.Fault.{Fault}
+use Rattle.jj_log.specs.declared.fault.Fault.TheVariants.{ReadInput, NotUtf8, Memory, WriteOutput, Line}
+use Rattle.jj_log.specs.declared.fault.LineFault.TheVariants.{RepeatedName, Cycle}
+use Rattle.jj_log.specs.declared.fault.LogError.{LogError}
+use Rattle.jj_log.specs.declared.fault.LogError.TheVariants.{RepeatedName as repeated_name, Cycle as cycle}
+
+-- the source was read to its end, and the drawing of the commits of its lines was written
+abbrev pub WritesLog : Streams → Streams → Type 0
+WritesLog old new = (input drawing : List ℕ) × Consumes old.unread new.unread input
+    × IsAtEnd new.unread × DrawsInput input drawing × Appends old.written new.written drawing
+
+-- a run ended with a failed read
+abbrev pub is_read_fault : {A : Type 0} → Result A Fault → Bool
+is_read_fault (Err ReadInput) = true
+is_read_fault result = false
+
+-- a run ended with a failed write
+abbrev pub is_write_fault : {A : Type 0} → Result A Fault → Bool
+is_write_fault (Err WriteOutput) = true
+is_write_fault result = false
+
+-- the log of the commits of the input has an error at the commit of the line with this number
+abbrev pub IsLogFault : (ℕ → LogError) → List ℕ → ℕ → Type 0
+IsLogFault error_at input number = (commits : List Commit) × (numbers : List ℕ)
+    × AreCommitsOf input commits numbers × (i : ℕ) × (number ≡ get_or numbers i 0)
+    × IsLogError commits (error_at i)
+
+-- a fault of an input
+abbrev pub IsInputFault : List ℕ → Fault → Type 0
+IsInputFault input NotUtf8 = IsUtf8 input → ⊥
+IsInputFault input (Line number RepeatedName) = IsLogFault repeated_name input number
+IsInputFault input (Line number Cycle) = IsLogFault cycle input number
+IsInputFault input fault = IsParseFault input fault
+
+-- the cause of a failed run: a fault of the input that was read, or memory ran out; failed reads
+-- and writes are known by the streams
+abbrev pub FailsBy : Streams → Streams → Fault → Type 0
+FailsBy old new ReadInput = Unit {0}
+FailsBy old new WriteOutput = Unit {0}
+FailsBy old new Memory = Unit {0}
+FailsBy old new fault = (input : List ℕ) × Consumes old.unread new.unread input
+    × IsInputFault input fault
