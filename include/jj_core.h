@@ -3,9 +3,10 @@
  *
  * Memory. Every pointer comes from the caller and is followed by the number of items that it points to. It is read or written during the
  * call only; the library keeps no pointer, returns no memory to free, and has no global state. A pointer must not be NULL, also where the
- * number is 0, and must be aligned for its type. A buffer for results must not overlap any other argument. `const` arguments are only read.
+ * number is 0, and must be aligned for its type. A buffer for results, or a hasher, must not overlap any other argument. `const` arguments
+ * are only read.
  *
- * Results. A call returns a number of 0 or more, or a negative status. Results are written to the first items of the buffer; the other items,
+ * Results. A call returns nothing, or a number of 0 or more, or a negative status. Results are written to the first items of the buffer; the other items,
  * and after a negative status all items, keep their values. A call returns only the statuses that are listed with it; if several apply, any
  * of them.
  *
@@ -15,7 +16,8 @@
  * Allocation. Calls marked "allocates" use malloc, realloc and free, and free all that they took before they return. Deep recursion does not
  * occur. No call blocks, prints, aborts or throws.
  *
- * Threads. Calls may run at the same time in any threads, as long as no buffer for results is shared. Do not call from a signal handler.
+ * Threads. Calls may run at the same time in any threads, as long as no buffer for results and no hasher is shared. Do not call from a signal
+ * handler.
  */
 #ifndef JJ_CORE_H
 #define JJ_CORE_H
@@ -64,6 +66,29 @@ int64_t jj_content_hash(const uint8_t *bytes, size_t bytes_len, uint8_t *digest,
 /* Writes the digest of the content of a list of byte strings: of their number as 8 bytes, and then the content of each. Returns 64.
  * Errors: JJ_ENDS, JJ_LENGTH. */
 int64_t jj_content_hash_list(const uint8_t *bytes, size_t bytes_len, const size_t *ends, size_t ends_len, uint8_t *digest, size_t digest_len);
+
+/* Digests in pieces: of a message that is never in memory as a whole. None of these calls allocates. */
+
+/* A hasher. The caller owns it, on the stack or anywhere else: it holds no pointer and need not be released, and a copy of it is a second
+ * hasher of the same message. Its fields are for the library. */
+typedef struct jj_hasher {
+    uint64_t chaining[8];
+    uint8_t buffer[128];
+    uint64_t total_low;
+    uint64_t total_high;
+    uint64_t is_full;
+} jj_hasher;
+
+/* Begins an empty message, whatever the fields were. A hasher that was not started is safe to pass, but its digest means nothing. */
+void jj_hasher_start(jj_hasher *hasher);
+
+/* Appends bytes to the message. O(bytes). */
+void jj_hasher_update(jj_hasher *hasher, const uint8_t *bytes, size_t bytes_len);
+
+/* Writes the BLAKE2b-512 digest of the message: of the bytes of all updates since the start, in order. Returns 64. The hasher stays as it is,
+ * so more can be appended afterwards. The digest of the content of a byte string, as of jj_content_hash, is that of the message of its length
+ * as 8 bytes, little-endian, and then the bytes in any pieces. Errors: JJ_LENGTH. */
+int64_t jj_hasher_finish(const jj_hasher *hasher, uint8_t *digest, size_t digest_len);
 
 /* Hex. With `reverse`, reverse hex: the digits z (0) to k (15). */
 

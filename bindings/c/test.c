@@ -67,6 +67,28 @@ static void known_results(void) {
     EXPECT(jj_graph_heads((size_t[]){0}, 1, (size_t[]){1}, 1, nodes, 1, ITEMS(found)) == JJ_CYCLE);
 }
 
+/* A message cut at each index, and its content: the digest is that of the whole message, also of a copy and after more was appended. */
+static void digests_in_pieces(void) {
+    enum { LEN = 300 };
+    uint8_t message[LEN], whole[64], found[64], length[8] = {LEN & 255, LEN >> 8};
+    jj_hasher hasher, copy;
+    for (size_t i = 0; i < LEN; i++) message[i] = (uint8_t)(i * 7);
+    for (size_t cut = 0; cut <= LEN; cut++) {
+        jj_hasher_start(&hasher);
+        jj_hasher_update(&hasher, message, cut);
+        copy = hasher;
+        EXPECT(jj_hash(message, cut, whole, 64) == 64 && jj_hasher_finish(&hasher, found, 64) == 64 && !memcmp(whole, found, 64));
+        jj_hasher_update(&hasher, message + cut, LEN - cut);
+        EXPECT(jj_hasher_finish(&copy, found, 64) == 64 && !memcmp(whole, found, 64));
+        EXPECT(jj_hasher_finish(&hasher, found, 63) == JJ_LENGTH && !memcmp(whole, found, 64));
+        EXPECT(jj_hash(message, LEN, whole, 64) == 64 && jj_hasher_finish(&hasher, found, 64) == 64 && !memcmp(whole, found, 64));
+    }
+    jj_hasher_start(&hasher);
+    jj_hasher_update(&hasher, length, 8);
+    for (size_t i = 0; i < LEN; i++) jj_hasher_update(&hasher, message + i, 1);
+    EXPECT(jj_content_hash(message, LEN, whole, 64) == 64 && jj_hasher_finish(&hasher, found, 64) == 64 && !memcmp(whole, found, 64));
+}
+
 /* The allocation after which `fail_in` is 0 fails. It is not changed while there are threads. */
 static long fail_in = -1;
 
@@ -183,13 +205,31 @@ static size_t *draw_nodes(struct random *r, size_t count, size_t below) {
 /* The targets of nodes that mostly precede their node in the order, so that most graphs are acyclic. */
 static size_t *draw_targets(struct random *r, size_t count, size_t nodes) { return draw_nodes(r, count, draw(r, 3) ? 1 : nodes); }
 
+/* Hashes a message in random pieces. The state is random at first, and mostly started then. */
+static int64_t draw_digest(struct random *r, uint8_t *out, size_t room) {
+    jj_hasher *hasher = take(r, sizeof *hasher);
+    size_t len = draw_len(r) * draw(r, 20), from = 0;
+    uint8_t *message = draw_bytes(r, len, "ab"), whole[64];
+    bool is_started = draw(r, 5) != 0;
+    int64_t status;
+    for (size_t i = 0; i < sizeof *hasher; i++) ((uint8_t *)hasher)[i] = (uint8_t)draw(r, 256);
+    if (is_started) jj_hasher_start(hasher);
+    for (size_t end = 0; end < len; from = end) {
+        end += draw(r, len - end) + 1;
+        jj_hasher_update(hasher, message + from, end - from);
+    }
+    status = jj_hasher_finish(hasher, out, room);
+    jj_hash(message, len, whole, 64);
+    return status > 0 && is_started && memcmp(whole, out, 64) ? INT64_MIN : status;
+}
+
 static int64_t draw_call(struct random *r) {
     static const char *const digits = "0123456789abcdefABCDEFzyxwvutsrqponmlk", *const globs = "ab/*?[]{},\\!-^", *const sets = "aabc*/|&~()";
     size_t len = draw_len(r), count = draw(r, 3) ? draw_len(r) | 1 : draw_len(r), room = draw(r, 4) ? MOST + 2 : draw_len(r), other = draw_len(r), nodes = draw_len(r);
     bool flag = draw(r, 2), icase = draw(r, 2);
     uint8_t *out = take(r, room * 4);
     size_t *list = take(r, room * sizeof *list);
-    switch (draw(r, 15)) {
+    switch (draw(r, 16)) {
     case 0: return jj_hash(draw_bytes(r, len, digits), len, out, room * 4);
     case 1: return jj_content_hash(draw_bytes(r, len, digits), len, out, room * 4);
     case 2: return jj_content_hash_list(draw_bytes(r, len, digits), len, draw_ends(r, count, len), count, out, room * 4);
@@ -206,13 +246,14 @@ static int64_t draw_call(struct random *r) {
         size_t parts = draw_len(r) / 4;
         return jj_walk(draw_bytes(r, other, "aab/"), other, draw_ends(r, parts, other), parts, flag, draw_bytes(r, len, "aab/"), len, draw_ends(r, count, len), count, take(r, room), room);
     }
-    case 13: return jj_graph_heads(draw_targets(r, len, nodes), len, draw_ends(r, nodes, len), nodes, draw_nodes(r, count, nodes), count, list, room);
+    case 13: return draw_digest(r, out, room * 4);
+    case 14: return jj_graph_heads(draw_targets(r, len, nodes), len, draw_ends(r, nodes, len), nodes, draw_nodes(r, count, nodes), count, list, room);
     default:
         return jj_graph_common(draw_targets(r, len, nodes), len, draw_ends(r, nodes, len), nodes, draw_nodes(r, count, nodes), count, draw_nodes(r, other, nodes), other, list, room);
     }
 }
 
-/* Makes random calls, and sums up their results in order. */
+/* Makes random calls, and sums up their results in order. The sum is 0 after a result that no call returns. */
 static void *random_calls(void *seed) {
     uint64_t *sum = seed;
     struct random r = {.state = *sum};
@@ -232,6 +273,7 @@ int main(void) {
     pthread_t threads[THREADS];
     uint64_t sums[THREADS], alone;
     known_results();
+    digests_in_pieces();
     failing_allocations();
     for (int i = 0; i < THREADS; i++) {
         sums[i] = 88172645463325252u + (uint64_t)(i / 2);

@@ -9,17 +9,26 @@ declarations in SIGNATURES, which `bindings/check-declarations` compares with in
 """
 import ctypes
 import os
-from ctypes import POINTER, c_bool, c_int64, c_size_t, c_ubyte
+from ctypes import POINTER, c_bool, c_int64, c_size_t, c_ubyte, c_uint64
 from itertools import accumulate
 from pathlib import Path
 
-BYTES, INDICES, BOOLS = POINTER(c_ubyte), POINTER(c_size_t), POINTER(c_bool)
 
-# The arguments of each call; each returns an int64_t.
+class JjHasher(ctypes.Structure):
+    """The state of a hasher: `jj_hasher` of include/jj_core.h."""
+    _fields_ = [("chaining", c_uint64 * 8), ("buffer", c_ubyte * 128), ("total_low", c_uint64), ("total_high", c_uint64), ("is_full", c_uint64)]
+
+
+BYTES, INDICES, BOOLS, HASHER = POINTER(c_ubyte), POINTER(c_size_t), POINTER(c_bool), POINTER(JjHasher)
+
+# The arguments of each call. Each returns an int64_t, but those in RETURN_NOTHING.
 SIGNATURES = {
     "jj_hash": [BYTES, c_size_t, BYTES, c_size_t],
     "jj_content_hash": [BYTES, c_size_t, BYTES, c_size_t],
     "jj_content_hash_list": [BYTES, c_size_t, INDICES, c_size_t, BYTES, c_size_t],
+    "jj_hasher_start": [HASHER],
+    "jj_hasher_update": [HASHER, BYTES, c_size_t],
+    "jj_hasher_finish": [HASHER, BYTES, c_size_t],
     "jj_hex_encode": [BYTES, c_size_t, c_bool, BYTES, c_size_t],
     "jj_hex_decode": [BYTES, c_size_t, c_bool, BYTES, c_size_t],
     "jj_hex_prefix_matches": [BYTES, c_size_t, c_bool, BYTES, c_size_t],
@@ -33,6 +42,8 @@ SIGNATURES = {
     "jj_graph_heads": [INDICES, c_size_t, INDICES, c_size_t, INDICES, c_size_t, INDICES, c_size_t],
     "jj_graph_common": [INDICES, c_size_t, INDICES, c_size_t, INDICES, c_size_t, INDICES, c_size_t, INDICES, c_size_t],
 }
+
+RETURN_NOTHING = {"jj_hasher_start", "jj_hasher_update"}
 
 # The names of the statuses, as in include/jj_core.h.
 STATUSES = {-1: "JJ_MEMORY", -2: "JJ_ENDS", -3: "JJ_LENGTH", -4: "JJ_SYNTAX", -5: "JJ_TERMS", -6: "JJ_CONFLICT", -7: "JJ_NODE", -8: "JJ_CYCLE",
@@ -54,7 +65,7 @@ def load(path):
     library = ctypes.CDLL(str(path))
     for name, arguments in SIGNATURES.items():
         call = getattr(library, name)
-        call.argtypes, call.restype = arguments, c_int64
+        call.argtypes, call.restype = arguments, None if name in RETURN_NOTHING else c_int64
     return library
 
 
@@ -114,6 +125,29 @@ def content_hash(data):
 def content_hash_list(items):
     """The digest of the content of a list of byte strings."""
     return bytes(_filled("jj_content_hash_list", c_ubyte, DIGEST_LENGTH, *_joined(items)))
+
+
+class Hasher:
+    """A BLAKE2b-512 hasher of a message that comes in pieces. Only one thread at a time may use it.
+
+    >>> hasher = Hasher()
+    >>> hasher.update(b"ab")
+    >>> hasher.update(b"c")
+    >>> hasher.finish() == hash(b"abc")
+    True
+    """
+
+    def __init__(self):
+        self._state = JjHasher()
+        LIBRARY.jj_hasher_start(self._state)
+
+    def update(self, data):
+        """Appends bytes to the message."""
+        LIBRARY.jj_hasher_update(self._state, *_bytes(data))
+
+    def finish(self):
+        """The digest of the message: of the bytes of all updates, in order. More can be appended afterwards."""
+        return bytes(_filled("jj_hasher_finish", c_ubyte, DIGEST_LENGTH, self._state))
 
 
 def hex_encode(data, reverse=False):

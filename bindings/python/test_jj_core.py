@@ -49,6 +49,25 @@ class Test(unittest.TestCase):
             wanted = struct.pack("<Q", 3) + b"".join(map(content, items))
             self.assertEqual(jj_core.content_hash_list(items), hashlib.blake2b(wanted).digest())
 
+    def test_digests_in_pieces(self):
+        numbers = random.Random(2)
+        for (message,), (expected,) in rows("digest"):
+            for cut in range(len(message) + 1):
+                hasher = jj_core.Hasher()
+                hasher.update(message[:cut])
+                self.assertEqual(hasher.finish(), hashlib.blake2b(message[:cut]).digest())
+                hasher.update(message[cut:])
+                self.assertEqual(hasher.finish().hex().encode(), expected)
+        for _ in range(200):
+            hasher, theirs, data = jj_core.Hasher(), hashlib.blake2b(), b""
+            for _ in range(numbers.randrange(6)):
+                piece = numbers.randbytes(numbers.choice([0, 1, 8, 127, 128, 129, 300]))
+                data += piece
+                hasher.update(piece)
+                theirs.update(piece)
+            self.assertEqual(hasher.finish(), theirs.digest())
+            self.assertEqual(hasher.finish(), jj_core.hash(data))
+
     def test_hex(self):
         self.assertEqual(jj_core.hex_encode(b"\x01\xef"), "01ef")
         self.assertEqual(jj_core.hex_encode(b"\x01\xef", True), "zylk")

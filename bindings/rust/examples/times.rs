@@ -1,5 +1,5 @@
 //! Prints how long calls take, in nanoseconds.
-use jj_core_verified::{content_hash_list, glob_matches, hash, heads, hex_encode, order, resolve, simplify, walk, Graph, Joined};
+use jj_core_verified::{content_hash, content_hash_list, glob_matches, hash, heads, hex_encode, order, resolve, simplify, walk, Graph, Hasher, Joined};
 use std::hint::black_box;
 use std::time::Instant;
 
@@ -18,6 +18,12 @@ fn main() -> Result<(), jj_core_verified::Error> {
     let nodes = (0..1000).collect::<Vec<_>>();
     time("hash, 16 bytes", 200_000, || hash(&big[..16]));
     time("hash, 1 MiB", 50, || hash(&big));
+    time("hash, 1 MiB in pieces of 4 KiB", 50, || {
+        let mut hasher = Hasher::new();
+        big.chunks(1 << 12).for_each(|piece| hasher.update(piece));
+        hasher.finish()
+    });
+    time("content hash, 16 bytes", 200_000, || content_hash(&big[..16]));
     time("content hash, 1000 strings", 1000, || content_hash_list(&paths));
     time("hex, 64 bytes", 200_000, || hex_encode(&big[..64], false));
     time("glob, parsed and matched once", 50_000, || glob_matches("src/**/*.rs", true, false, &Joined::new(&["src/a/b.rs"])));

@@ -1,11 +1,25 @@
 //! The declarations of `include/jj_core.h`; `bindings/check-declarations` compares them.
 
+/// The state of a hasher: `jj_hasher` of the header.
+#[repr(C)]
+#[derive(Clone, Debug)]
+pub struct JjHasher {
+    pub chaining: [u64; 8],
+    pub buffer: [u8; 128],
+    pub total_low: u64,
+    pub total_high: u64,
+    pub is_full: u64,
+}
+
 extern "C" {
     pub fn jj_hash(bytes: *const u8, bytes_len: usize, digest: *mut u8, digest_len: usize) -> i64;
     pub fn jj_content_hash(bytes: *const u8, bytes_len: usize, digest: *mut u8, digest_len: usize) -> i64;
     pub fn jj_content_hash_list(
         bytes: *const u8, bytes_len: usize, ends: *const usize, ends_len: usize, digest: *mut u8, digest_len: usize,
     ) -> i64;
+    pub fn jj_hasher_start(hasher: *mut JjHasher);
+    pub fn jj_hasher_update(hasher: *mut JjHasher, bytes: *const u8, bytes_len: usize);
+    pub fn jj_hasher_finish(hasher: *const JjHasher, digest: *mut u8, digest_len: usize) -> i64;
     pub fn jj_hex_encode(bytes: *const u8, bytes_len: usize, reverse: bool, text: *mut u8, text_len: usize) -> i64;
     pub fn jj_hex_decode(text: *const u8, text_len: usize, reverse: bool, bytes: *mut u8, bytes_len: usize) -> i64;
     pub fn jj_hex_prefix_matches(prefix: *const u8, prefix_len: usize, reverse: bool, id: *const u8, id_len: usize) -> i64;

@@ -167,6 +167,40 @@ pub fn content_hash_list(list: &Joined) -> Result<[u8; DIGEST_LENGTH], Error> {
     })
 }
 
+/// A BLAKE2b-512 hasher of a message that comes in pieces. It allocates nothing; a clone of it is a second hasher of the same message.
+///
+/// ```
+/// use jj_core_verified::{hash, Hasher};
+/// let mut hasher = Hasher::new();
+/// hasher.update(b"ab");
+/// hasher.update(b"c");
+/// assert_eq!(hasher.finish(), hash(b"abc")?);
+/// # Ok::<(), jj_core_verified::Error>(())
+/// ```
+#[derive(Clone, Debug)]
+pub struct Hasher {
+    state: ffi::JjHasher,
+}
+
+impl Hasher {
+    /// A hasher of the empty message.
+    pub fn new() -> Hasher {
+        let mut state = ffi::JjHasher { chaining: [0; 8], buffer: [0; 128], total_low: 0, total_high: 0, is_full: 0 };
+        unsafe { ffi::jj_hasher_start(&mut state) };
+        Hasher { state }
+    }
+
+    /// Appends bytes to the message.
+    pub fn update(&mut self, bytes: &[u8]) {
+        unsafe { ffi::jj_hasher_update(&mut self.state, bytes.as_ptr(), bytes.len()) }
+    }
+
+    /// The digest of the message: of the bytes of all updates, in order. More can be appended afterwards.
+    pub fn finish(&self) -> [u8; DIGEST_LENGTH] {
+        digest(|out, len| unsafe { ffi::jj_hasher_finish(&self.state, out, len) }).expect("the buffer has the length of a digest")
+    }
+}
+
 /// Encodes bytes as lower-case hex, or with `reverse` as reverse hex (`z` is 0, `k` is 15).
 pub fn hex_encode(bytes: &[u8], reverse: bool) -> Result<String, Error> {
     let digits = filled(2 * bytes.len(), |out, len| unsafe { ffi::jj_hex_encode(bytes.as_ptr(), bytes.len(), reverse, out, len) })?;

@@ -1,7 +1,7 @@
 //! The rows of the conformance table of the libraries that apply to this crate.
 use jj_core_verified::{
-    closest_common, fileset_matches, flatten, glob_matches, hash, heads, hex_decode, hex_encode, hex_prefix_matches, order, resolve, simplify,
-    walk, Error, Graph, Joined, Walk,
+    closest_common, content_hash, fileset_matches, flatten, glob_matches, hash, heads, hex_decode, hex_encode, hex_prefix_matches, order, resolve,
+    simplify, walk, Error, Graph, Hasher, Joined, Walk,
 };
 
 const TABLE: &str = include_str!("../../../crates/conformance/stdin");
@@ -59,6 +59,48 @@ fn is_true(field: &[u8]) -> bool {
 #[test]
 fn digests() {
     each_row("digest", 3, |given, expected| assert_eq!(hex_encode(&hash(&given[0]).unwrap(), false).unwrap().as_bytes(), expected[0]));
+}
+
+// The message in pieces that end at these indices, and its rest.
+fn hash_in_pieces(message: &[u8], ends: &[usize]) -> [u8; 64] {
+    let mut hasher = Hasher::new();
+    let mut from = 0;
+    for end in ends {
+        hasher.update(&message[from..*end]);
+        from = *end;
+    }
+    hasher.update(&message[from..]);
+    hasher.finish()
+}
+
+#[test]
+fn digests_in_pieces() {
+    each_row("digest", 3, |given, expected| {
+        for cut in 0..=given[0].len() {
+            let found = hash_in_pieces(&given[0], &[cut]);
+            assert_eq!(hex_encode(&found, false).unwrap().as_bytes(), expected[0], "{cut}");
+        }
+    });
+    let message: Vec<u8> = (0..1000u32).map(|n| (n * 7) as u8).collect();
+    let whole = hash(&message).unwrap();
+    for step in 1..300 {
+        let ends: Vec<usize> = (step..message.len()).step_by(step).collect();
+        assert_eq!(hash_in_pieces(&message, &ends), whole, "{step}");
+    }
+    let content = [&1000u64.to_le_bytes()[..], &message].concat();
+    assert_eq!(hash_in_pieces(&content, &[8, 500]), content_hash(&message).unwrap());
+}
+
+#[test]
+fn hashers_that_go_on() {
+    let mut hasher = Hasher::new();
+    for len in 0..300 {
+        let message = vec![7; len];
+        assert_eq!(hasher.finish(), hash(&message).unwrap(), "{len}");
+        let mut other = hasher.clone();
+        other.update(&[1; 200]);
+        hasher.update(&[7]);
+    }
 }
 
 #[test]

@@ -1,6 +1,7 @@
 pub mod Statuses
 pub mod Buffers
 pub mod Pieces
+pub mod Hashers
 pub mod Causes
 pub mod HexResults
 pub mod MergeResults

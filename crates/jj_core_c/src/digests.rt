@@ -10,6 +10,7 @@ ghost use Rattle.jj_core_c.specs.Statuses.{Accepts, Returns};
 
 use crate::buffers::write_bytes;
 use crate::error::{Error, number};
+use crate::hasher::hash_two;
 use crate::pieces::{are_ends, piece_at};
 use jj_content::blake2b::Blake2b512;
 
@@ -37,14 +38,6 @@ fn update_content(hasher: &mut Blake2b512, bytes: &[u8])
     hasher.update(bytes);
 }
 
-fn content_digest(bytes: &[u8]) -> [u8; 64]
-    ensures { result ≡ blake2b (string_content bytes.now) }
-{
-    let mut hasher = Blake2b512::new();
-    update_content(&mut hasher, bytes);
-    hasher.finalize()
-}
-
 fn list_digest(bytes: &[u8], ends: &[usize]) -> [u8; 64]
     requires { are_ends (length bytes.now) ends.now ≡ true }
     ensures { result ≡ blake2b (list_content string_content (pieces_of bytes.now ends.now)) }
@@ -57,7 +50,7 @@ fn list_digest(bytes: &[u8], ends: &[usize]) -> [u8; 64]
     hasher.finalize()
 }
 
-fn write_digest(digest: &[u8; 64], buffer: &mut [u8]) -> Result<usize, Error>
+pub(crate) fn write_digest(digest: &[u8; 64], buffer: &mut [u8]) -> Result<usize, Error>
     ensures { MatchResult result (Writes buffer.old buffer.new digest.now)
         (Fails buffer.old buffer.new (IsLengthCause 64 (length buffer.old))) }
 {
@@ -97,13 +90,14 @@ pub extern "C" fn jj_hash(bytes: &[u8], digest: &mut [u8]) -> i64
 /// Writes the digest of the content of a byte string. Returns 64.
 ///
 /// Errors: `Length`. Does not allocate.
+#[tactic(auto, unfolding(jj_content::specs::Content::string_content, jj_content::specs::Content::u64_content))]
 #[unsafe(no_mangle)]
 pub extern "C" fn jj_content_hash(bytes: &[u8], digest: &mut [u8]) -> i64
     ensures { Returns result
         (Writes digest.old digest.new (blake2b (string_content bytes.now)))
         (Fails digest.old digest.new (IsLengthCause 64 (length digest.old))) }
 {
-    number(write_digest(&content_digest(bytes), digest))
+    hash_two(&(bytes.len() as u64).to_le_bytes(), bytes, digest)
 }
 
 /// Writes the digest of the content of a list of byte strings. Returns 64.

@@ -9,6 +9,7 @@ mod filesets;
 mod flatten;
 mod globs;
 mod graphs;
+mod hasher;
 mod hex;
 mod merges;
 mod paths;
