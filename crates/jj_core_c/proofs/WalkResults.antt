@@ -1,12 +1,10 @@
--- The closures over a graph in arrays implement it, and sorted results of walks.
+-- The closures over a graph in arrays implement it.
 use Rattle.std.proofs.Common.{◌≡◌, ◌∙◌, Iter, ℕ, true, List, [], ◌∷◌, Result, Ok, Err, ap, refl, eqb, map, subst}
 use Rattle.std.specs.Prelude.{◌++◌, IsOkAnd}
 use Rattle.std.specs.Fn.{Called, Mut, Shared, FnReturnsAt}
 use Rattle.std.specs.Iterator.{YieldsFirst}
 use Rattle.std.specs.Iterator.Adapters.{copied_source}
 use Rattle.std.specs.List.{Contains}
-use Rattle.std.specs.List.Sorted.{IsPermutation, IsSorted, IsStrictlyIncreasing}
-use Rattle.std.specs.Ordering.{nat_cmp}
 use Rattle.std.specs.Slice.Iter.{iter_rest}
 use Rattle.std.specs.declared.alloc.AllocError.{AllocError}
 use Rattle.std.specs.declared.iter.Copied.{Copied}
@@ -14,17 +12,14 @@ use Rattle.std.proofs.iter.Yields.{copies, fronts}
 use Rattle.std.proofs.lemmas.Fn.{always_returns_same}
 use Rattle.std.proofs.lemmas.Iterator.{YieldsList-from_slice}
 use Rattle.std.proofs.lemmas.Iterator.Consumers.{YieldsList-from_copied, YieldsList-from_first}
-use Rattle.std.proofs.lemmas.List.Sorted.{Contains-permutation, IsPermutation-sym, IsNonDecreasingBy-from_sort}
-use Rattle.std.proofs.lemmas.Map.Keys.{IsDistinct-IsPermutation, IsStrictlyIncreasing-from_distinct}
 use denote.Ref.{Bor}
 use Rattle.jj_dag.specs.ClosureGraph.{Implements, MayReturn, YieldsOk}
-use Rattle.jj_dag.specs.CommonNodes.{AreClosestCommon}
 use Rattle.jj_dag.specs.FallibleGraphs.{BeginsWith}
-use Rattle.jj_dag.specs.Graph.{Graph, IsAcyclicFrom, AreMaximalElements}
+use Rattle.jj_dag.specs.Graph.{Graph, IsAcyclicFrom}
 use Rattle.jj_dag.specs.Walk.{DrainsTo, GraphModel}
 use Rattle.jj_dag.proofs.ClosureGraphs.{may_return_says}
 use Rattle.jj_dag.proofs.FailingWalks.{begun_are}
-use Rattle.jj_dag.proofs.Walking.{drained_are, eqb-flip}
+use Rattle.jj_dag.proofs.Walking.{drained_are}
 use Rattle.jj_core_c.specs.declared.walks.SoundNodes.{SoundNodes}
 use Rattle.jj_core_c.specs.ArrayGraphs.{HasCycle}
 use Rattle.jj_core_c.specs.GraphViews.{sound_left}
@@ -133,25 +128,3 @@ pub no_error : (graph : Graph) {N : Type 0} (lists : Mut N (Bor ℕ × Unit {0})
 no_error graph lists neighbors_fn looks x e (r, may, is) =
     let holds : HoldsNodes (graph x) r = may_return_says lists (λ y s. HoldsNodes (graph y) s) (always_returns_same lists _ neighbors_fn looks) may in
     subst (HoldsNodes (graph x)) is holds
-
--- ---- sorted results
-
--- maximal elements under permutation
-pub maximal_permuted : (graph : Graph) (nodes found sorted : List ℕ) → IsPermutation found sorted → AreMaximalElements graph nodes found → AreMaximalElements graph nodes sorted
-maximal_permuted graph nodes found sorted moved of_found = record {
-  all = λ a. ((λ h. (of_found.all a).0 (Contains-permutation sorted found a (IsPermutation-sym found sorted moved) h)), λ h. Contains-permutation found sorted a moved ((of_found.all a).1 h));
-  once = IsDistinct-IsPermutation eqb eqb-flip found sorted moved of_found.once;
-}
-
-pub maximal_rising : (graph : Graph) (nodes sorted : List ℕ) → IsSorted nat_cmp sorted → AreMaximalElements graph nodes sorted → IsStrictlyIncreasing sorted
-maximal_rising graph nodes sorted in_order of_sorted = IsStrictlyIncreasing-from_distinct sorted (IsNonDecreasingBy-from_sort (λ x. x) sorted in_order) of_sorted.once
-
--- closest common nodes under permutation
-pub closest_permuted : (graph : Graph) (set1 set2 found sorted : List ℕ) → IsPermutation found sorted → AreClosestCommon graph set1 set2 found → AreClosestCommon graph set1 set2 sorted
-closest_permuted graph set1 set2 found sorted moved of_found = record {
-  all = λ a. ((λ h. (of_found.all a).0 (Contains-permutation sorted found a (IsPermutation-sym found sorted moved) h)), λ h. Contains-permutation found sorted a moved ((of_found.all a).1 h));
-  once = IsDistinct-IsPermutation eqb eqb-flip found sorted moved of_found.once;
-}
-
-pub closest_rising : (graph : Graph) (set1 set2 sorted : List ℕ) → IsSorted nat_cmp sorted → AreClosestCommon graph set1 set2 sorted → IsStrictlyIncreasing sorted
-closest_rising graph set1 set2 sorted in_order of_sorted = IsStrictlyIncreasing-from_distinct sorted (IsNonDecreasingBy-from_sort (λ x. x) sorted in_order) of_sorted.once

@@ -55,16 +55,11 @@ fn write_order(
         (IsGreatestTopologicalOrder (graph_of targets.now ends.now) nodes.now)
         (length order.old))) }
 {
-    let graph = match acyclic_graph(alloc, targets, ends) {
-        Ok(graph) => graph,
-        Err(error) => return Err(error),
-    };
+    let graph = acyclic_graph(alloc, targets, ends)?;
     if !are_nodes(ends.len(), nodes) {
         return Err(Error::Node);
     }
-    let Ok(found) = greatest_order(alloc, &graph, nodes) else {
-        return Err(Error::Memory);
-    };
+    let found = greatest_order(alloc, &graph, nodes)?;
     if order.len() < found.len() {
         return Err(Error::Length);
     }
@@ -88,16 +83,11 @@ fn write_heads(
         (AreAscendingHeads (graph_of targets.now ends.now) nodes.now)
         (length heads.old))) }
 {
-    let graph = match acyclic_graph(alloc, targets, ends) {
-        Ok(graph) => graph,
-        Err(error) => return Err(error),
-    };
+    let graph = acyclic_graph(alloc, targets, ends)?;
     if !are_nodes(ends.len(), nodes) {
         return Err(Error::Node);
     }
-    let Ok(found) = ascending_heads(alloc, &graph, nodes) else {
-        return Err(Error::Memory);
-    };
+    let found = ascending_heads(alloc, &graph, nodes)?;
     if heads.len() < found.len() {
         return Err(Error::Length);
     }
@@ -122,16 +112,11 @@ fn write_common(
         (AreAscendingCommon (graph_of targets.now ends.now) set1.now set2.now)
         (length common.old))) }
 {
-    let graph = match acyclic_graph(alloc, targets, ends) {
-        Ok(graph) => graph,
-        Err(error) => return Err(error),
-    };
+    let graph = acyclic_graph(alloc, targets, ends)?;
     if !are_all_nodes(ends.len(), set1, set2) {
         return Err(Error::Node);
     }
-    let Ok(found) = ascending_common(alloc, &graph, set1, set2) else {
-        return Err(Error::Memory);
-    };
+    let found = ascending_common(alloc, &graph, set1, set2)?;
     if common.len() < found.len() {
         return Err(Error::Length);
     }

@@ -8,10 +8,10 @@ use Rattle.jj_core_c.proofs.graphs.write_common.Goals as goal
 
 pub returns : goal.returns
 returns c =
-    let valid = c.in-Ok.ensures in
-    let found = c.in-Ok-ascending_common.found.items in
+    let valid = c.in_ok-graph.ensures in
+    let found = c.in_ok-found.found.items in
     let acyclic = subst (λ (g : Graph). HasCycle g → ⊥) valid.0 valid.1 in
     let starts : All (λ node. node < length c.args.ends.now) c.args.set1.now × All (λ node. node < length c.args.ends.now) c.args.set2.now = search rules in
-    let common = subst (λ (g : Graph). AreClosestCommon g c.args.set1.now c.args.set2.now found) valid.0 c.in-Ok-ascending_common.ensures.closest in
+    let common = subst (λ (g : Graph). AreClosestCommon g c.args.set1.now c.args.set2.now found) valid.0 c.in_ok-found.ensures.closest in
     let written = subst (λ items. Writes c.args.common.now c.write_indices.new.buffer items c.write_indices.result) c.deref.ensures.value c.write_indices.ensures in
-    (((valid.2, acyclic), starts), (found, (common, c.in-Ok-ascending_common.ensures.ascending), written))
+    (((valid.2, acyclic), starts), (found, (common, c.in_ok-found.ensures.ascending), written))

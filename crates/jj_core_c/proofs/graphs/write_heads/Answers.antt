@@ -7,10 +7,10 @@ use Rattle.jj_core_c.proofs.graphs.write_heads.Goals as goal
 
 pub returns : goal.returns
 returns c =
-    let valid = c.in-Ok.ensures in
-    let found = c.in-Ok-ascending_heads.found.items in
+    let valid = c.in_ok-graph.ensures in
+    let found = c.in_ok-found.found.items in
     let acyclic = subst (λ (g : Graph). HasCycle g → ⊥) valid.0 valid.1 in
     let starts : All (λ node. node < length c.args.ends.now) c.args.nodes.now = search rules in
-    let heads = subst (λ (g : Graph). AreMaximalElements g c.args.nodes.now found) valid.0 c.in-Ok-ascending_heads.ensures.maximal in
+    let heads = subst (λ (g : Graph). AreMaximalElements g c.args.nodes.now found) valid.0 c.in_ok-found.ensures.maximal in
     let written = subst (λ items. Writes c.args.heads.now c.write_indices.new.buffer items c.write_indices.result) c.deref.ensures.value c.write_indices.ensures in
-    (((valid.2, acyclic), starts), (found, (heads, c.in-Ok-ascending_heads.ensures.ascending), written))
+    (((valid.2, acyclic), starts), (found, (heads, c.in_ok-found.ensures.ascending), written))

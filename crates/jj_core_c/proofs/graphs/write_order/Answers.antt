@@ -7,10 +7,10 @@ use Rattle.jj_core_c.proofs.graphs.write_order.Goals as goal
 
 pub returns : goal.returns
 returns c =
-    let valid = c.in-Ok.ensures in
-    let found = c.in-Ok-greatest_order.found.items in
+    let valid = c.in_ok-graph.ensures in
+    let found = c.in_ok-found.found.items in
     let acyclic = subst (λ (g : Graph). HasCycle g → ⊥) valid.0 valid.1 in
     let starts : All (λ node. node < length c.args.ends.now) c.args.nodes.now = search rules in
-    let order = subst (λ (g : Graph). IsGreatestTopologicalOrder g c.args.nodes.now found) valid.0 c.in-Ok-greatest_order.ensures in
+    let order = subst (λ (g : Graph). IsGreatestTopologicalOrder g c.args.nodes.now found) valid.0 c.in_ok-found.ensures in
     let written = subst (λ items. Writes c.args.order.now c.write_indices.new.buffer items c.write_indices.result) c.deref.ensures.value c.write_indices.ensures in
     (((valid.2, acyclic), starts), (found, order, written))

@@ -3,8 +3,9 @@ use Rattle.std.proofs.lemmas.Fn.{always_returns_same}
 use Rattle.std.proofs.lemmas.List.{map-id}
 use Rattle.jj_dag.specs.CommonNodes.{AreClosestCommon}
 use Rattle.jj_dag.proofs.Errors.{node_says}
+use Rattle.jj_dag.proofs.SortedResults.{closest_permuted, closest_rising}
 use Rattle.jj_core_c.specs.GraphViews.{graph_in}
-use Rattle.jj_core_c.proofs.WalkResults.{closest_permuted, closest_rising, copied_nodes, implements_oks, model_of, no_error}
+use Rattle.jj_core_c.proofs.WalkResults.{copied_nodes, implements_oks, model_of, no_error}
 use Rattle.jj_core_c.proofs.walks.ascending_common.Goals as goal
 
 pub closest_common_nodes-found-requires-clause-graph : goal.closest_common_nodes-found-requires-clause-graph

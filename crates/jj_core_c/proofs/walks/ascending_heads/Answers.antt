@@ -6,8 +6,9 @@ use Rattle.std.proofs.lemmas.Iterator.{items_from_collect}
 use Rattle.std.proofs.lemmas.Iterator.Consumers.{YieldsList-from_copied, YieldsList-from_rest}
 use Rattle.std.proofs.lemmas.List.{map-id}
 use Rattle.jj_dag.specs.Graph.{AreMaximalElements}
+use Rattle.jj_dag.proofs.SortedResults.{maximal_permuted, maximal_rising}
 use Rattle.jj_core_c.specs.GraphViews.{graph_in}
-use Rattle.jj_core_c.proofs.WalkResults.{copied_nodes, implements_lists, maximal_permuted, maximal_rising, model_of, none_reached}
+use Rattle.jj_core_c.proofs.WalkResults.{copied_nodes, implements_lists, model_of, none_reached}
 use Rattle.jj_core_c.proofs.walks.ascending_heads.Goals as goal
 
 pub heads-requires-clause-graph : goal.heads-requires-clause-graph
