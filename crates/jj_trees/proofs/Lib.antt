@@ -12,3 +12,4 @@ mod SameRecords
 pub mod StoredTries
 pub mod TrieValues
 pub mod ChosenValues
+pub mod MergedPaths

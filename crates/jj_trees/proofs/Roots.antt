@@ -94,7 +94,7 @@ module _ (trees : ById Entries) (eq : Option TreeValue → Option TreeValue → 
       into (map (child trees m) values) (dir ++ name ∷ []) (is_open.0, is_open.1)
       (join (map (child trees m) values) dir name is_open.2 (λ rest. not (is_open.0, is_open.1, rest)))
 
-  outcome_below : (values : Values) (path : Path) → HasOutcome trees eq same_change values path → HasOutcomeBelow trees eq same_change values path
+  pub outcome_below : (values : Values) (path : Path) → HasOutcome trees eq same_change values path → HasOutcomeBelow trees eq same_change values path
   outcome_below values path h =
       subst (HasOutcomeBelow trees eq same_change values) (sym h.2)
       (join values h.0 h.1 h.3 (subst (λ p. IsOpen trees eq same_change values p → ⊥) h.2 h.4))

@@ -1,14 +1,17 @@
 -- The merge of trees: the outcome at each path, which paths have one, and the trees that are read.
--- Cited by contracts of public items: AreRead, IsConflict, IsMergeError, IsResolved, root_values.
-use Rattle.std.specs.Prelude.{◌≡◌, ◌⊎◌, ⊤, ℕ, ◌<◌, Bool, List, [], ◌∷◌, ◌++◌, map, length}
-use Rattle.std.specs.Prelude.{Option, Some, None, option_and_then, IfSome, IsSomeAnd, All, Contains}
+-- Cited by contracts of public items: AreRead, HasOutcome, IsConflict, IsMergeError, IsOpen,
+-- IsResolved, IsTreeMerge, root_values.
+use Rattle.std.specs.Prelude.{◌≡◌, ◌↔◌, ◌⊎◌, ⊤, ℕ, ◌<◌, Bool, List, [], ◌∷◌, ◌++◌, map, length}
+use Rattle.std.specs.Prelude.{Option, Some, None, option_and_then, IfSome, IsSomeAnd, All, AllPairs}
+use Rattle.std.specs.Prelude.{Contains}
 use Rattle.std.specs.Prelude.{Result, Ok, Err}
 use Rattle.std.specs.Bool.{MatchBool}
 use Rattle.std.specs.Map.{lookup}
 use Rattle.std.specs.Str.{bytes_eq}
 use Rattle.std.specs.Global.{Global}
+use Rattle.std.specs.declared.cmp.Ordering.TheVariants.{Less}
 use Rattle.std.specs.declared.string.String.{String}
-use Rattle.jj_paths.specs.Paths.{Name, Path}
+use Rattle.jj_paths.specs.Paths.{Name, Path, path_cmp}
 use Rattle.jj_merges.specs.declared.merge.SameChange.{SameChange}
 use Rattle.jj_merges.specs.Resolution.{ResolvesTo}
 use Rattle.jj_merges.specs.Simplify.{simplified_indices, at_indices}
@@ -77,6 +80,19 @@ module _ (trees : ById Entries) where
         HasOutcome values path × IsUnresolved eq same_change here
         × (terms ≡ at_indices here (simplified_indices eq here))
         × (term_labels ≡ normalized_labels (at_indices labels (simplified_indices eq here)))
+
+    -- the lists are the result of a merge: exactly the paths that resolve to a present value, and
+    -- exactly the conflicts, each in ascending order of paths
+    pub record IsTreeMerge (values : List (Option TreeValue)) (labels : List (List ℕ))
+        (resolved : List (Path × TreeValue))
+        (conflicts : List (Path × List (Option TreeValue) × List (List ℕ))) : Type 0 where
+      pub resolves : (path : Path) (value : TreeValue)
+          → Contains resolved (path, value) ↔ IsResolved values path value
+      pub conflicted : (path : Path) (terms : List (Option TreeValue)) (term_labels : List (List ℕ))
+          → Contains conflicts (path, terms, term_labels)
+          ↔ IsConflict values labels path terms term_labels
+      pub ascending : AllPairs (λ a b. path_cmp a.0 b.0 ≡ Less) resolved
+          × AllPairs (λ a b. path_cmp a.0 b.0 ≡ Less) conflicts
 
     -- `may_read_tree path id result`: reading the tree with this id at this path may return result
     module _ (may_read_tree : Path → List ℕ → Result Entries BackendError → Type 0) where
