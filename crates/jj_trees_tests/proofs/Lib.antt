@@ -1,1 +1,2 @@
 mod ConflictTerms
+mod WrittenOutcomes

@@ -1,14 +1,16 @@
 //! Proved callers of the in-memory backend and of recursive tree merges.
-ghost use Rattle.std.specs.Prelude.{◌≡◌, ◌↔◌, ◌⊎◌, ℕ, List, [], length, Option, Some, AllPairs};
+ghost use Rattle.std.specs.Prelude.{◌≡◌, ◌≢◌, ◌↔◌, ◌⊎◌, ℕ, List, [], length, Option, Some, AllPairs};
 ghost use Rattle.std.specs.Prelude.{Contains, IfOk, IfErr, string_bytes};
 ghost use Rattle.jj_merges.specs.Merge.{HaveSameCounts, IsDisjoint};
 ghost use Rattle.jj_merges.specs.declared.merge.SameChange.TheVariants.{Accept};
 ghost use Rattle.jj_backend.specs.declared.backend.tree_value.TreeValue.{TreeValue};
 ghost use Rattle.jj_backend.specs.declared.backend.tree_value.TreeValue.TheVariants.{Tree as SubTree};
-ghost use Rattle.jj_paths.specs.Paths.{Path};
+ghost use Rattle.jj_paths.specs.Paths.{Path, IsBelow};
 ghost use Rattle.jj_trees.specs.MemoryObjects.{objects_of};
-ghost use Rattle.jj_trees.specs.TreeMerges.{IsConflict, IsResolved, root_values, values_at};
-ghost use Rattle.jj_trees.specs.WrittenTrees.{stored_at};
+ghost use Rattle.jj_trees.specs.TreeMerges.{IsConflict, IsMergeError, IsResolved, root_values};
+ghost use Rattle.jj_trees.specs.TreeMerges.{values_at};
+ghost use Rattle.jj_trees.specs.WrittenTrees.{AddsTrees, IsTreeWriteError, stored_at};
+ghost use Rattle.jj_trees_tests.specs.Outcomes.{IsOutcome};
 ghost use Rattle.jj_trees_tests.specs.Writes.{IsWriteError};
 
 use crate::three_sides::side_values;
@@ -61,21 +63,35 @@ pub fn conflicts<B: Backend>(
     Ok(merged.conflicts)
 }
 
-/// Merges trees of an in-memory backend and writes the result back, with the first side of each
-/// conflict: the written tree has, at each path that resolves to a value, that value.
-pub fn merge_and_write(
+/// Merges trees and writes the result back, with the term of one side for each conflict, `None` if
+/// there is no such side: the written tree has the value at each path that resolves to one, the
+/// chosen term at the path of each conflict, and nothing else. It fails as the merge does, or where
+/// a tree cannot be written.
+pub fn merge_and_write<B: Backend>(
     alloc: Global,
-    backend: &mut MemoryBackend,
+    backend: &mut B,
     trees: &Merge<TreeId>,
+    side: usize,
 ) -> BackendResult<TreeId>
-    ensures { IfOk result (λ id. (path : Path) (value : TreeValue) →
-        IsResolved (objects_of backend.old).trees ⟦<Option<TreeValue> as PartialEq>⟧.eq Accept
-        (root_values trees.now) path value
-        → stored_at (objects_of backend.new).trees (Some (SubTree id)) path ≡ Some value) }
+    ensures outcomes { IfOk result (λ id. (path : Path) (outcome : Option TreeValue) →
+        IsOutcome (B.objects backend.old).trees ⟦<Option<TreeValue> as PartialEq>⟧.eq Accept
+        (root_values trees.now) side path outcome
+        → stored_at (B.objects backend.new).trees (Some (SubTree id)) path ≡ outcome) }
+    ensures only { IfOk result (λ id. (path : Path) (value : TreeValue) → path ≢ []
+        → stored_at (B.objects backend.new).trees (Some (SubTree id)) path ≡ Some value
+        → (written : Path) × (present : TreeValue)
+        × IsOutcome (B.objects backend.old).trees ⟦<Option<TreeValue> as PartialEq>⟧.eq Accept
+        (root_values trees.now) side written (Some present)
+        × (IsBelow written path ⊎ IsBelow path written)) }
+    ensures objects { AddsTrees (B.objects backend.old) (B.objects backend.new) }
+    ensures error { IfErr result (λ e. IsMergeError (B.objects backend.old).trees
+        ⟦<Option<TreeValue> as PartialEq>⟧.eq Accept (B.may_read_tree backend.old)
+        (B.may_fail backend.old) (root_values trees.now) 1024 e
+        ⊎ IsTreeWriteError B.objects B.may_fail_to_write backend.old e) }
 {
     let labels = ConflictLabels::unlabeled(alloc);
     let merge = merge_trees(alloc, backend, trees, &labels, SameChange::Accept)?;
-    let chosen = side_values(alloc, &merge, 0)?;
+    let chosen = side_values(alloc, &merge, side)?;
     write_back(alloc, backend, &merge, &chosen)
 }
 

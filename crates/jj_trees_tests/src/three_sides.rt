@@ -1,11 +1,12 @@
 //! A three-way merge of a directory of files: its description, and its conflicts written back as
 //! trees.
-ghost use Rattle.std.specs.Prelude.{◌≡◌, ◌↔◌, ℕ, List, Option, AllPairs, Contains, IfOk, length};
+ghost use Rattle.std.specs.Prelude.{◌≡◌, ◌↔◌, ℕ, List, Option, AllPairs, Contains, IfOk, map};
 ghost use Rattle.jj_merges.specs.declared.merge.SameChange.TheVariants.{Accept};
 ghost use Rattle.jj_backend.specs.declared.backend.tree_value.TreeValue.{TreeValue};
 ghost use Rattle.jj_paths.specs.Paths.{Path};
 ghost use Rattle.jj_trees.specs.MemoryObjects.{objects_of};
 ghost use Rattle.jj_trees.specs.TreeMerges.{IsConflict, IsResolved, root_values};
+ghost use Rattle.jj_trees_tests.specs.Outcomes.{side_term};
 
 use crate::building::{ascending_tree, bad_data, component, plain_file, sides_of};
 use crate::callers::merge_in_memory;
@@ -111,7 +112,8 @@ pub fn side_values(
     merge: &TreeMerge,
     side: usize,
 ) -> Result<Vec<Option<TreeValue>>, AllocError>
-    ensures { IfOk result (λ values. length values.items ≡ length merge.now.conflicts.items) }
+    ensures { IfOk result (λ values.
+        values.items ≡ map (λ c. side_term side c.1) merge.now.conflicts.items) }
 {
     let mut values = Vec::with_capacity(alloc, merge.conflicts.len())?;
     for (_, terms, _) in &merge.conflicts {
