@@ -1,7 +1,7 @@
 //! Tests of a backend beside a log: the logged entries by value, and a log that fails.
 use crate::callers::written_commit;
 use jj_backend::backend::{
-    Backend, BackendError, BackendResult, ChangeId, Commit, NoSigner, SigningFn, Tree,
+    Backend, BackendError, BackendResult, ChangeId, Commit, FileId, NoSigner, SigningFn, Tree,
     make_root_commit,
 };
 use jj_backend::signing::SignResult;
@@ -68,7 +68,11 @@ impl SigningFn for FixedSigner {
     }
 }
 
-fn new_store(alloc: Global) -> BackendResult<Mirrored<MemoryBackend, MemoryLog>> {
+// The tests borrow the store: one that owned it would drop it at each `?`, and each drop of it is
+// proved.
+type Store = Mirrored<MemoryBackend, MemoryLog>;
+
+fn new_store(alloc: Global) -> BackendResult<Store> {
     Ok(Mirrored::new(MemoryBackend::new(alloc)?, MemoryLog::new(alloc)))
 }
 
@@ -86,8 +90,7 @@ fn is_entry(entry: &LogEntry, kind: ObjectKind, id: &[u8], bytes: &[u8]) -> bool
 }
 
 // A file, a link and a tree: the entries have the ids of the objects and their bytes.
-fn logs_objects(alloc: Global) -> BackendResult<bool> {
-    let mut store = new_store(alloc)?;
+fn logs_objects(alloc: Global, store: &mut Store) -> BackendResult<bool> {
     let file = store.write_file(alloc, RepoPath::root(), b"abc")?;
     let link = store.write_symlink(alloc, RepoPath::root(), "to")?;
     let tree = Tree::default(alloc);
@@ -106,9 +109,8 @@ fn logs_objects(alloc: Global) -> BackendResult<bool> {
 }
 
 // The stored form of a signed commit is logged, with its digest as the id.
-fn logs_signed_commit(alloc: Global) -> BackendResult<bool> {
-    let mut store = new_store(alloc)?;
-    let commit = child_of_root(alloc, &store)?;
+fn logs_signed_commit(alloc: Global, store: &mut Store) -> BackendResult<bool> {
+    let commit = child_of_root(alloc, store)?;
     let (id, stored) = store.write_commit(alloc, commit, Some(&mut FixedSigner))?;
     let content = content_of(alloc, &stored)?;
     let digest = blake2b_hash(alloc, &stored)?;
@@ -119,17 +121,15 @@ fn logs_signed_commit(alloc: Global) -> BackendResult<bool> {
     Ok(is_logged && stored.secure_sig.is_some() && id.as_bytes() == digest.as_slice())
 }
 
-fn writes_and_reads_commit(alloc: Global) -> BackendResult<bool> {
-    let mut store = new_store(alloc)?;
-    let commit = child_of_root(alloc, &store)?;
+fn writes_and_reads_commit(alloc: Global, store: &mut Store) -> BackendResult<bool> {
+    let commit = child_of_root(alloc, store)?;
     let expected = commit.clone()?;
-    Ok(written_commit(alloc, &mut store, commit)? == expected)
+    Ok(written_commit(alloc, store, commit)? == expected)
 }
 
 // Nothing is logged for a commit without parents.
-fn refuses_parentless_commit(alloc: Global) -> BackendResult<bool> {
-    let mut store = new_store(alloc)?;
-    let mut commit = child_of_root(alloc, &store)?;
+fn refuses_parentless_commit(alloc: Global, store: &mut Store) -> BackendResult<bool> {
+    let mut commit = child_of_root(alloc, store)?;
     commit.parents.clear();
     match store.write_commit(alloc, commit, None::<&mut NoSigner>) {
         Err(BackendError::Other(_)) => Ok(store.log().entries().is_empty()),
@@ -138,20 +138,23 @@ fn refuses_parentless_commit(alloc: Global) -> BackendResult<bool> {
     }
 }
 
+// The id that a file has in any backend.
+fn id_of_file(alloc: Global, bytes: &[u8]) -> BackendResult<FileId> {
+    let mut backend = MemoryBackend::new(alloc)?;
+    backend.write_file(alloc, RepoPath::root(), bytes)
+}
+
 // A failed log fails the write with its error, and the object is not stored.
-fn fails_with_log(alloc: Global) -> BackendResult<bool> {
-    let log = FullLog {
-        entries: MemoryLog::new(alloc),
-        capacity: 1,
-    };
-    let mut store = Mirrored::new(MemoryBackend::new(alloc)?, log);
+fn fails_with_log(
+    alloc: Global,
+    store: &mut Mirrored<MemoryBackend, FullLog>,
+) -> BackendResult<bool> {
     let first = store.write_file(alloc, RepoPath::root(), b"1")?;
     let failed = match store.write_file(alloc, RepoPath::root(), b"2") {
         Err(error) => is_disk_full(&error),
         Ok(_) => false,
     };
-    let mut other = MemoryBackend::new(alloc)?;
-    let second = other.write_file(alloc, RepoPath::root(), b"2")?;
+    let second = id_of_file(alloc, b"2")?;
     let is_absent = match store.read_file(alloc, RepoPath::root(), &second) {
         Err(BackendError::ObjectNotFound { .. }) => true,
         _ => false,
@@ -160,15 +163,38 @@ fn fails_with_log(alloc: Global) -> BackendResult<bool> {
     Ok(failed && is_absent && is_read && store.log().entries.entries().len() == 1)
 }
 
+fn logs(alloc: Global) -> BackendResult<bool> {
+    let mut store = new_store(alloc)?;
+    logs_objects(alloc, &mut store)
+}
+
+fn logs_commits(alloc: Global) -> BackendResult<bool> {
+    let mut store = new_store(alloc)?;
+    Ok(refuses_parentless_commit(alloc, &mut store)? && logs_signed_commit(alloc, &mut store)?)
+}
+
+fn stores_commits(alloc: Global) -> BackendResult<bool> {
+    let mut store = new_store(alloc)?;
+    writes_and_reads_commit(alloc, &mut store)
+}
+
+fn stores_nothing(alloc: Global) -> BackendResult<bool> {
+    let log = FullLog {
+        entries: MemoryLog::new(alloc),
+        capacity: 1,
+    };
+    let mut store = Mirrored::new(MemoryBackend::new(alloc)?, log);
+    fails_with_log(alloc, &mut store)
+}
+
 #[test]
 fn objects_are_logged(rt: HostRuntime) {
-    assert!(rt; holds(&rt, logs_objects));
-    assert!(rt; holds(&rt, logs_signed_commit));
-    assert!(rt; holds(&rt, writes_and_reads_commit));
+    assert!(rt; holds(&rt, logs));
+    assert!(rt; holds(&rt, logs_commits));
+    assert!(rt; holds(&rt, stores_commits));
 }
 
 #[test]
 fn failed_writes_store_nothing(rt: HostRuntime) {
-    assert!(rt; holds(&rt, refuses_parentless_commit));
-    assert!(rt; holds(&rt, fails_with_log));
+    assert!(rt; holds(&rt, stores_nothing));
 }
