@@ -7,7 +7,7 @@ use Rattle.std.specs.List.Sorted.{IsBinarySearchResult, IsNonDecreasingBy}
 use Rattle.std.specs.Map.{lookup}
 use Rattle.std.specs.Option.{option_map, option_or}
 use Rattle.std.specs.Ordering.{is_eq, nat_cmp, ordering_index}
-use Rattle.std.proofs.lemmas.Bool.{cases_lt, ne_eqb}
+use Rattle.std.proofs.lemmas.Bool.{cases_eq, cases_lt, ne_eqb}
 use Rattle.std.proofs.lemmas.Bool.Decides.{Decides-eqb, nat_tests}
 use Rattle.std.proofs.lemmas.Cmp.{ranked}
 use Rattle.std.proofs.Math.Seq.{drop-append_seam}
@@ -19,7 +19,7 @@ use Rattle.jj_program.specs.Edges.{listed_by, part_at}
 use Rattle.jj_program.specs.GraphCommand.{graph_of}
 use Rattle.jj_program.specs.Neighbors.{HoldsEach, HoldsNeighbors}
 use Rattle.jj_program.specs.Numbering.{id_of}
-use Rattle.jj_program.specs.Parts.{AreBelow, AreParts, Entry, IsAscending, NoneAbove, part_in}
+use Rattle.jj_program.specs.Parts.{AreAbove, AreBelow, AreParts, Entry, HoldsForNone, IsAscending, part_in}
 use Rattle.jj_program.specs.declared.edges.Edges.{Edges}
 
 -- ---- entries in ascending order
@@ -54,6 +54,9 @@ find_at (x ∷ entries) id (suc place) up within is =
 
 pub find_above : (entries : List Entry) (id : ℕ) → AreBelow entries id → find entries id ≡ None
 find_above entries id below = find_none entries id (λ j within same. omega (arith, below j (0, (0, 0)) within, same))
+
+pub find_below : (entries : List Entry) (id : ℕ) → AreAbove entries id → find entries id ≡ None
+find_below entries id above = find_none entries id (λ j within same. omega (arith, above j (0, (0, 0)) within, same))
 
 -- a binary search by id ends at its entry, or where there is none
 module _ (entries : List Entry) (up : IsAscending entries) (id : ℕ) where
@@ -91,6 +94,28 @@ above_last entries id greatest d up some last false is = λ below.
     let less = below (length entries - 1) d (omega (arith, some)) in
     omega (arith, less, last, most)
 
+-- an id is below all entries exactly if it is below the first
+pub below_first : (entries : List Entry) (id least : ℕ) (d : Entry) → IsAscending entries → 0 < length entries → least ≡ (get_or entries 0 d).0
+    → (t : Bool) → t ≡ nat_lt id least → MatchBool t (AreAbove entries id) (AreAbove entries id → ⊥)
+below_first entries id least d up some first true is = λ k d' within.
+    let less : id < least = search rules in
+    let at_start : (get_or entries 0 d').0 ≡ least =
+    ap (λ (e : Entry). e.0) (get_or_default entries 0 d' d some) ∙ sym first in
+    ⊎_elim
+    (λ here. let same : (get_or entries k d').0 ≡ least = ap (λ n. (get_or entries n d').0) (sym here) ∙ at_start in omega (arith, same, less))
+    (λ apart. let rises = up 0 k d' (omega arith) within in omega (arith, rises, at_start, less))
+    (cases_eq 0 k)
+below_first entries id least d up some first false is = λ above.
+    let most : least ≤ id = search rules in
+    let less = above 0 d some in
+    omega (arith, less, first, most)
+
+pub ascending_first : (entries : List Entry) (e : Entry) → IsAscending entries → AreAbove entries e.0 → IsAscending (e ∷ entries)
+ascending_first entries e up above zero zero d less within = absurd (omega (arith, less))
+ascending_first entries e up above zero (suc j) d less within = above j d (omega (arith, within))
+ascending_first entries e up above (suc i) zero d less within = absurd (omega (arith, less))
+ascending_first entries e up above (suc i) (suc j) d less within = up i j d (omega (arith, less)) (omega (arith, within))
+
 pub ascending_more : (entries : List Entry) (e : Entry) → IsAscending entries → AreBelow entries e.0 → IsAscending (entries ++ e ∷ [])
 ascending_more entries e up below i j d less within =
     let long = length_push entries e in
@@ -100,10 +125,19 @@ ascending_more entries e up below i j d less within =
     (λ least. rw (first, get_or_push entries e d j (omega (arith, least, within, long))) (below i d (omega (arith, less, within, long))))
     (cases_lt j (length entries))
 
-pub none_above_more : (entries : List Entry) (e : Entry) (others : BTreeMap ℕ (ℕ × ℕ)) → NoneAbove entries others → NoneAbove (entries ++ e ∷ []) others
-none_above_more entries e others none id part is below = none id part is (λ k d within.
+below_fewer : (entries : List Entry) (e : Entry) (id : ℕ) → AreBelow (entries ++ e ∷ []) id → AreBelow entries id
+below_fewer entries e id below k d within =
     let front : get_or (entries ++ e ∷ []) k d ≡ get_or entries k d = get_or_append_left entries (e ∷ []) d k within in
-    subst (λ (x : Entry). x.0 < id) front (below k d (omega (arith, within, length_push entries e))))
+    subst (λ (x : Entry). x.0 < id) front (below k d (omega (arith, within, length_push entries e)))
+
+above_fewer : (entries : List Entry) (e : Entry) (id : ℕ) → AreAbove (entries ++ e ∷ []) id → AreAbove entries id
+above_fewer entries e id above k d within =
+    let front : get_or (entries ++ e ∷ []) k d ≡ get_or entries k d = get_or_append_left entries (e ∷ []) d k within in
+    subst (λ (x : Entry). id < x.0) front (above k d (omega (arith, within, length_push entries e)))
+
+-- a property that implies another
+none_weaker : (P Q : ℕ → Type 0) (m : BTreeMap ℕ (ℕ × ℕ)) → ((id : ℕ) → Q id → P id) → HoldsForNone P m → HoldsForNone Q m
+none_weaker P Q m implies none id part is holds = none id part is (implies id holds)
 
 -- ---- parts
 
@@ -159,6 +193,14 @@ puts_entry entries others id part below q = ap (λ o. option_or o (get nat_cmp o
     by_test true same = ap (λ o. option_or (option_or o (Some part)) (get nat_cmp others q)) (find_above entries q (subst (AreBelow entries) (same refl) below))
     by_test false same = none_else (find entries q) (get nat_cmp others q)
 
+-- an entry was added at the start
+pub puts_first : (entries : List Entry) (others : BTreeMap ℕ (ℕ × ℕ)) (id : ℕ) (part : ℕ × ℕ) → PutsPart (part_in entries others) (part_in ((id, part) ∷ entries) others) id part
+puts_first entries others id part q = by_test (id == q)
+  where
+    by_test : (t : Bool) → option_or (cond t (Some part) (find entries q)) (get nat_cmp others q) ≡ cond t (Some part) (option_or (find entries q) (get nat_cmp others q))
+    by_test true = refl
+    by_test false = refl
+
 -- the map was updated
 abbrev UpdatesMap : BTreeMap ℕ (ℕ × ℕ) → BTreeMap ℕ (ℕ × ℕ) → ℕ → ℕ × ℕ → Type 0
 UpdatesMap m m2 id part = (q : ℕ) → get nat_cmp m2 q ≡ cond (is_at (nat_cmp id) q) (Some part) (get nat_cmp m q)
@@ -171,23 +213,30 @@ puts_other entries m m2 id part none puts q =
     by_test true same = ap (λ o. option_or o (Some part)) (ap (find entries) (sym (same refl)) ∙ none)
     by_test false same = refl
 
--- an id that is not above all entries was put into the map, or the map is as it was
-pub none_above_put : {V E : Type 0} (r : Result V E) (entries : List Entry) (m m2 : BTreeMap ℕ (ℕ × ℕ)) (id : ℕ) (part : ℕ × ℕ) → NoneAbove entries m → (AreBelow entries id → ⊥)
-    → OnOk r (UpdatesMap m m2 id part) → OnErr r (m2.entries ≡ m.entries) → NoneAbove entries m2
-none_above_put (Ok v) entries m m2 id part none not_above puts unchanged q p is = by_test (is_at (nat_cmp id) q) (sym (at_same id q)) (sym (puts q) ∙ is)
+-- an id without the property was put into the map, or the map is as it was
+none_put : {V E : Type 0} (r : Result V E) (P : ℕ → Type 0) (m m2 : BTreeMap ℕ (ℕ × ℕ)) (id : ℕ) (part : ℕ × ℕ) → HoldsForNone P m → (P id → ⊥)
+    → OnOk r (UpdatesMap m m2 id part) → OnErr r (m2.entries ≡ m.entries) → HoldsForNone P m2
+none_put (Ok v) P m m2 id part none not puts unchanged q p is = by_test (is_at (nat_cmp id) q) (sym (at_same id q)) (sym (puts q) ∙ is)
   where
-    by_test : (t : Bool) → (id == q) ≡ t → cond t (Some part) (get nat_cmp m q) ≡ Some p → AreBelow entries q → ⊥
-    by_test true same e = λ below. not_above (subst (AreBelow entries) (sym ((Decides-eqb id q).0 same)) below)
+    by_test : (t : Bool) → (id == q) ≡ t → cond t (Some part) (get nat_cmp m q) ≡ Some p → P q → ⊥
+    by_test true same e = λ holds. not (subst P (sym ((Decides-eqb id q).0 same)) holds)
     by_test false same e = none q p e
-none_above_put (Err e) entries m m2 id part none not_above puts unchanged q p is = none q p (sym (ap (λ es. lookup (is_at (nat_cmp q)) es) unchanged) ∙ is)
+none_put (Err e) P m m2 id part none not puts unchanged q p is = none q p (sym (ap (λ es. lookup (is_at (nat_cmp q)) es) unchanged) ∙ is)
 
--- an id above all entries has no part
-pub new_above : (entries : List Entry) (m : BTreeMap ℕ (ℕ × ℕ)) (id : ℕ) → NoneAbove entries m → AreBelow entries id → part_in entries m id ≡ None
-new_above entries m id none below = ap (λ o. option_or o (get nat_cmp m id)) (find_above entries id below) ∙ by_part (get nat_cmp m id) refl
+-- an id with the property has no part
+none_part : (P : ℕ → Type 0) (entries : List Entry) (m : BTreeMap ℕ (ℕ × ℕ)) (id : ℕ) → HoldsForNone P m → P id → find entries id ≡ None → part_in entries m id ≡ None
+none_part P entries m id none holds out = ap (λ o. option_or o (get nat_cmp m id)) out ∙ by_part (get nat_cmp m id) refl
   where
     by_part : (o : Option (ℕ × ℕ)) → get nat_cmp m id ≡ o → o ≡ None
     by_part None is = refl
-    by_part (Some part) is = absurd (none id part is below)
+    by_part (Some part) is = absurd (none id part is holds)
+
+-- an id above all entries or below all of them has no part
+pub new_above : (entries : List Entry) (m : BTreeMap ℕ (ℕ × ℕ)) (id : ℕ) → HoldsForNone (AreBelow entries) m → AreBelow entries id → part_in entries m id ≡ None
+new_above entries m id none below = none_part (AreBelow entries) entries m id none below (find_above entries id below)
+
+pub new_below : (entries : List Entry) (m : BTreeMap ℕ (ℕ × ℕ)) (id : ℕ) → HoldsForNone (AreAbove entries) m → AreAbove entries id → part_in entries m id ≡ None
+new_below entries m id none above = none_part (AreAbove entries) entries m id none above (find_below entries id above)
 
 -- a search that found no entry
 pub not_found : (P : ℕ → Type 0) (o : Option ℕ) (entries : List Entry) (id : ℕ) → is_some o ≡ false → MatchOption o (find entries id ≡ None) P → find entries id ≡ None
@@ -242,31 +291,46 @@ parts_put (Err e) entries m m2 targets id start end n within first last le none 
 -- ---- the invariants after each step
 
 abbrev Holds : List Entry → BTreeMap ℕ (ℕ × ℕ) → ℕ → Type 0
-Holds entries others n = IsAscending entries × NoneAbove entries others × AreParts (part_in entries others) n
+Holds entries others n = IsAscending entries × HoldsForNone (AreBelow entries) others × HoldsForNone (AreAbove entries) others × AreParts (part_in entries others) n
 
 pub holds_longer : (edges : Edges) (n : ℕ) → length edges.targets.items ≤ n → Holds edges.ascending.items edges.others n
-holds_longer edges n le = (edges.sorted, edges.below, parts_kept (part_in edges.ascending.items edges.others) (length edges.targets.items) n le edges.within)
+holds_longer edges n le = (edges.sorted, edges.below, edges.above, parts_kept (part_in edges.ascending.items edges.others) (length edges.targets.items) n le edges.within)
 
--- an entry was pushed, or memory was missing
-pub holds_pushed : (edges : Edges) (entries : List Entry) (id start end n : ℕ) (b : Bool) → entries ≡ (if b then edges.ascending.items ++ (id, (start, end)) ∷ [] else edges.ascending.items) → AreBelow edges.ascending.items id
-    → start ≡ length edges.targets.items → end ≡ n → length edges.targets.items ≤ n → Holds entries edges.others n
-holds_pushed edges entries id start end n true is below first last le =
-    let old = edges.ascending.items in
-    let more = old ++ (id, (start, end)) ∷ [] in
-    subst (λ l. Holds l edges.others n) (sym is) (
-      ascending_more old (id, (start, end)) edges.sorted below,
-      none_above_more old (id, (start, end)) edges.others edges.below,
-      parts_more (part_in old edges.others) (part_in more edges.others) edges.targets.items id start end edges.within first n last le (puts_entry old edges.others id (start, end) below),
-    )
-holds_pushed edges entries id start end n false is below first last le = subst (λ l. Holds l edges.others n) (sym is) (holds_longer edges n le)
+-- an entry was added at the end or at the start, or memory was missing
+module _ (edges : Edges) (entries : List Entry) (id start end n : ℕ) (first : start ≡ length edges.targets.items) (last : end ≡ n) (le : length edges.targets.items ≤ n) where
+  pub holds_pushed : (b : Bool) → entries ≡ (if b then edges.ascending.items ++ (id, (start, end)) ∷ [] else edges.ascending.items) → AreBelow edges.ascending.items id → Holds entries edges.others n
+  holds_pushed true is below =
+      let old = edges.ascending.items in
+      let more = old ++ (id, (start, end)) ∷ [] in
+      subst (λ l. Holds l edges.others n) (sym is) (
+        ascending_more old (id, (start, end)) edges.sorted below,
+        none_weaker (AreBelow old) (AreBelow more) edges.others (below_fewer old (id, (start, end))) edges.below,
+        none_weaker (AreAbove old) (AreAbove more) edges.others (above_fewer old (id, (start, end))) edges.above,
+        parts_more (part_in old edges.others) (part_in more edges.others) edges.targets.items id start end edges.within first n last le (puts_entry old edges.others id (start, end) below),
+      )
+  holds_pushed false is below = subst (λ l. Holds l edges.others n) (sym is) (holds_longer edges n le)
+
+  pub holds_put_first : (b : Bool) → entries ≡ (if b then (id, (start, end)) ∷ edges.ascending.items else edges.ascending.items) → AreAbove edges.ascending.items id → Holds entries edges.others n
+  holds_put_first true is above =
+      let old = edges.ascending.items in
+      let more = (id, (start, end)) ∷ old in
+      subst (λ l. Holds l edges.others n) (sym is) (
+        ascending_first old (id, (start, end)) edges.sorted above,
+        none_weaker (AreBelow old) (AreBelow more) edges.others (λ q below k d within. below (suc k) d (omega (arith, within))) edges.below,
+        none_weaker (AreAbove old) (AreAbove more) edges.others (λ q all k d within. all (suc k) d (omega (arith, within))) edges.above,
+        parts_more (part_in old edges.others) (part_in more edges.others) edges.targets.items id start end edges.within first n last le (puts_first old edges.others id (start, end)),
+      )
+  holds_put_first false is above = subst (λ l. Holds l edges.others n) (sym is) (holds_longer edges n le)
 
 -- the map was updated, or memory was missing
-pub holds_put : {V E : Type 0} (r : Result V E) (edges : Edges) (m2 : BTreeMap ℕ (ℕ × ℕ)) (id start end n : ℕ) → find edges.ascending.items id ≡ None → (AreBelow edges.ascending.items id → ⊥)
+pub holds_put : {V E : Type 0} (r : Result V E) (edges : Edges) (m2 : BTreeMap ℕ (ℕ × ℕ)) (id start end n : ℕ) → find edges.ascending.items id ≡ None
+    → (AreBelow edges.ascending.items id → ⊥) → (AreAbove edges.ascending.items id → ⊥)
     → OnOk r (UpdatesMap edges.others m2 id (start, end)) → OnErr r (m2.entries ≡ edges.others.entries)
     → start ≡ length edges.targets.items → end ≡ n → length edges.targets.items ≤ n → Holds edges.ascending.items m2 n
-holds_put r edges m2 id start end n none not_above puts unchanged first last le = (
+holds_put r edges m2 id start end n none not_above not_below puts unchanged first last le = (
   edges.sorted,
-  none_above_put r edges.ascending.items edges.others m2 id (start, end) edges.below not_above puts unchanged,
+  none_put r (AreBelow edges.ascending.items) edges.others m2 id (start, end) edges.below not_above puts unchanged,
+  none_put r (AreAbove edges.ascending.items) edges.others m2 id (start, end) edges.above not_below puts unchanged,
   parts_put r edges.ascending.items edges.others m2 edges.targets.items id start end n edges.within first last le none puts unchanged,
 )
 

@@ -18,10 +18,13 @@ IsAscending entries = AllPairs (λ e f. e.0 < f.0) entries
 abbrev pub AreBelow : List Entry → ℕ → Type 0
 AreBelow entries id = All (λ e. e.0 < id) entries
 
--- no id of the map is above those of all entries
-abbrev pub NoneAbove : List Entry → BTreeMap ℕ (ℕ × ℕ) → Type 0
-NoneAbove entries others = (id : ℕ) (part : ℕ × ℕ) → get nat_cmp others id ≡ Some part
-    → AreBelow entries id → ⊥
+-- the id is below those of all entries
+abbrev pub AreAbove : List Entry → ℕ → Type 0
+AreAbove entries id = All (λ e. id < e.0) entries
+
+-- the property holds for no id of the map
+abbrev pub HoldsForNone : (ℕ → Type 0) → BTreeMap ℕ (ℕ × ℕ) → Type 0
+HoldsForNone P others = (id : ℕ) (part : ℕ × ℕ) → get nat_cmp others id ≡ Some part → P id → ⊥
 
 -- the part of an id
 abbrev pub part_in : List Entry → BTreeMap ℕ (ℕ × ℕ) → ℕ → Option (ℕ × ℕ)

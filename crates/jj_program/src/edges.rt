@@ -1,20 +1,22 @@
 //! The adjacency lists of the input, as parts of one array.
 ghost use Rattle.std.specs.Prelude.{◌≡◌, ◌==◌, ◌<◌, ℕ, List, IsTrue, Some, None, All, MatchBool, MatchOption, cond, false, get_or, is_some, length, map, not, IfOk};
 ghost use Rattle.std.specs.Map.{lookup};
-ghost use Rattle.jj_program.specs.Parts.{AreBelow, AreParts, IsAscending, NoneAbove, part_in};
+ghost use Rattle.jj_program.specs.Parts.{AreAbove, AreBelow, AreParts, HoldsForNone, IsAscending, part_in};
 
 use std::alloc::{AllocError, Global};
-use std::collections::BTreeMap;
+use std::collections::{BTreeMap, VecDeque};
 
-// Where the list of each node starts and ends among the targets. Lines in ascending order of their
-// nodes are appended to a sorted list; the nodes of other lines are in a map.
+// Where the list of each node starts and ends among the targets. Lines in ascending or descending
+// order of their nodes extend a sorted queue at its end or its start; the nodes of other lines are
+// in a map.
 #[derive(Drop)]
 pub(crate) struct Edges {
-    ascending: Vec<(u64, (usize, usize))>,
+    ascending: VecDeque<(u64, (usize, usize))>,
     others: BTreeMap<u64, (usize, usize)>,
     targets: Vec<u64>,
     ghost sorted: { IsAscending ascending.items },
-    ghost below: { NoneAbove ascending.items others },
+    ghost below: { HoldsForNone (AreBelow ascending.items) others },
+    ghost above: { HoldsForNone (AreAbove ascending.items) others },
     ghost within: { AreParts (part_in ascending.items others) (length targets.items) },
 }
 
@@ -26,7 +28,7 @@ impl Edges {
         ensures { listed_by result ≡ (λ id. None) }
     {
         Edges {
-            ascending: Vec::new(alloc),
+            ascending: VecDeque::new(alloc),
             others: BTreeMap::new(alloc),
             targets: Vec::new(alloc),
         }
@@ -42,7 +44,11 @@ impl Edges {
         self.targets.extend_from_slice(neighbors)?;
         let part = (start, self.targets.len());
         if is_above(&self.ascending, id) {
-            self.ascending.push((id, part))?;
+            self.ascending.push_back((id, part))?;
+            return Ok(true);
+        }
+        if is_below(&self.ascending, id) {
+            self.ascending.push_front((id, part))?;
             return Ok(true);
         }
         if find(&self.ascending, 0, id).is_some() {
@@ -91,9 +97,10 @@ impl Edges {
 }
 
 // Whether an id is greater than those of all entries.
-fn is_above(entries: &[(u64, (usize, usize))], id: u64) -> bool
-    requires { IsAscending entries.now }
-    ensures { MatchBool result (AreBelow entries.now id) (AreBelow entries.now id → ⊥) }
+fn is_above(entries: &VecDeque<(u64, (usize, usize))>, id: u64) -> bool
+    requires { IsAscending entries.now.items }
+    ensures { MatchBool result (AreBelow entries.now.items id)
+        (AreBelow entries.now.items id → ⊥) }
 {
     if entries.is_empty() {
         return true;
@@ -101,12 +108,25 @@ fn is_above(entries: &[(u64, (usize, usize))], id: u64) -> bool
     entries[entries.len() - 1].0 < id
 }
 
+// Whether an id is less than those of all entries.
+fn is_below(entries: &VecDeque<(u64, (usize, usize))>, id: u64) -> bool
+    requires { IsAscending entries.now.items }
+    ensures { MatchBool result (AreAbove entries.now.items id)
+        (AreAbove entries.now.items id → ⊥) }
+{
+    if entries.is_empty() {
+        return true;
+    }
+    id < entries[0].0
+}
+
 // Returns the index of the entry of an id, which may be this one.
-fn find(entries: &[(u64, (usize, usize))], guess: usize, id: u64) -> Option<usize>
-    requires { IsAscending entries.now }
-    ensures { MatchOption result (lookup (λ other. other == id) entries.now ≡ None)
-        (λ place. (place < length entries.now) × (lookup (λ other. other == id) entries.now
-        ≡ Some (get_or entries.now place (0, (0, 0))).1)) }
+fn find(entries: &VecDeque<(u64, (usize, usize))>, guess: usize, id: u64) -> Option<usize>
+    requires { IsAscending entries.now.items }
+    ensures { MatchOption result (lookup (λ other. other == id) entries.now.items ≡ None)
+        (λ place. (place < length entries.now.items)
+        × (lookup (λ other. other == id) entries.now.items
+        ≡ Some (get_or entries.now.items place (0, (0, 0))).1)) }
 {
     if guess < entries.len() && entries[guess].0 == id {
         return Some(guess);

@@ -1,5 +1,5 @@
 //! Dense numbering of ids: the number of an id is its index in the sorted list.
-ghost use Rattle.std.specs.Prelude.{◌≡◌, ◌<◌, ℕ, IfOk, All, length, map};
+ghost use Rattle.std.specs.Prelude.{◌≡◌, ◌↔◌, ◌<◌, ℕ, IfOk, IsTrue, All, length, map};
 ghost use Rattle.std.specs.List.{Contains};
 ghost use Rattle.std.specs.List.Sorted.{IsStrictlyIncreasing};
 ghost use Rattle.jj_program.specs.Numbering.{IsNumberOf, id_of};
@@ -29,18 +29,19 @@ impl Numbering {
         &self.ids
     }
 
-    // Returns the numbers of these ids; takes the least time if they are ascending.
+    // Returns the numbers of these ids; takes the least time where neighbours in the list are
+    // neighbours in the numbering.
     pub(crate) fn numbers_of(&self, alloc: Global, ids: &[u64]) -> Result<Vec<usize>, AllocError>
         requires { All (Contains self.now.ids.items) ids.now }
         ensures { IfOk result (λ numbers. map (id_of self.now.ids.items) numbers.items
             ≡ ids.now) }
     {
         let mut numbers = Vec::with_capacity(alloc, ids.len())?;
-        let mut next = 0;
+        let mut last = 0;
         for id in ids {
-            let number = self.number(next, *id);
+            let number = self.number(last, *id);
             numbers.push(number)?;
-            next = number.wrapping_add(1);
+            last = number;
         }
         Ok(numbers)
     }
@@ -57,17 +58,32 @@ impl Numbering {
         Ok(ids)
     }
 
-    // Returns the index of an id, which may be this one; unspecified for an id that is not in the
-    // list.
-    fn number(&self, guess: usize, id: u64) -> usize
+    // Returns the index of an id, which is looked for beside the index `near` first; unspecified
+    // for an id that is not in the list.
+    fn number(&self, near: usize, id: u64) -> usize
         ensures { Contains self.now.ids.items id → IsNumberOf self.now.ids.items id result }
     {
-        if guess < self.ids.len() && self.ids[guess] == id {
-            return guess;
+        let next = near.wrapping_add(1);
+        if self.is_number(next, id) {
+            return next;
+        }
+        let before = near.wrapping_sub(1);
+        if self.is_number(before, id) {
+            return before;
+        }
+        if self.is_number(near, id) {
+            return near;
         }
         match self.ids.binary_search(&id) {
             Ok(place) => place,
             Err(place) => place,
         }
+    }
+
+    // Whether the id is at this index.
+    fn is_number(&self, place: usize, id: u64) -> bool
+        ensures { IsTrue result ↔ IsNumberOf self.now.ids.items id place }
+    {
+        place < self.ids.len() && self.ids[place] == id
     }
 }

@@ -1,21 +1,30 @@
-use Rattle.std.proofs.Common.{rules, ◌<◌, length}
+use Rattle.std.proofs.Common.{rules, ◌≡◌, ◌<◌, ◌∙◌, ap, sym, subst, length, get_or, deque_len}
+use Rattle.std.proofs.lemmas.List.{get_or_default}
 use Rattle.std.proofs.lemmas.List.Sorted.{answers_always}
 use Rattle.jj_program.proofs.ListedEdges.{find_at, search_found, search_missed}
+use Rattle.jj_program.specs.Parts.{Entry}
 use Rattle.jj_program.proofs.edges.find.Goals as goal
 
-pub returns-then-entries-guess : goal.returns-then-entries-guess
-returns-then-entries-guess c =
-    let within : c.args.guess < length c.args.entries.now = search rules in
-    (within, find_at c.args.entries.now c.args.id c.args.guess c.requires within c.if-entries-guess.true)
+pub returns-then-index-id : goal.returns-then-index-id
+returns-then-index-id c =
+    let entries = c.args.entries.now.items in
+    let here : Entry = c.index.result.now in
+    let within : c.args.guess < length entries = search rules in
+    let same : here.0 ≡ c.args.id = search rules in
+    let at = get_or_default entries c.args.guess (0, (0, 0)) here within in
+    (within, find_at entries c.args.id c.args.guess c.requires within (ap (λ (e : Entry). e.0) at ∙ ap (λ (e : Entry). e.0) (sym c.index.ensures) ∙ same))
 
 pub returns-in-Ok : goal.returns-in-Ok
 returns-in-Ok c =
+    let entries = c.args.entries.now.items in
     let facts = c.binary_search_by_key.ensures in
     let by_key = facts.position (λ entry. entry.0) (answers_always _ _ _ (λ f a r g called. search rules)) in
-    (c.in-Ok.ensures.bound, search_found c.args.entries.now c.requires c.args.id c.in-Ok.place c.in-Ok.ensures.bound (rw c.in-Ok.is at by_key))
+    let size : deque_len c.args.entries.now ≡ length entries = search rules in
+    let within : c.in-Ok.place < length entries = subst (λ n. c.in-Ok.place < n) size c.in-Ok.ensures.bound in
+    (within, search_found entries c.requires c.args.id c.in-Ok.place within (rw c.in-Ok.is at by_key))
 
 pub returns-in-Err : goal.returns-in-Err
 returns-in-Err c =
     let facts = c.binary_search_by_key.ensures in
     let by_key = facts.position (λ entry. entry.0) (answers_always _ _ _ (λ f a r g called. search rules)) in
-    search_missed c.args.entries.now c.requires c.args.id c.in-Err._place (rw c.in-Err.is at by_key)
+    search_missed c.args.entries.now.items c.requires c.args.id c.in-Err._place (rw c.in-Err.is at by_key)
