@@ -1,4 +1,5 @@
 pub mod Steps
+pub mod LineFields
 pub mod Requests
 pub mod MergeRequests
 pub mod ParsedForms

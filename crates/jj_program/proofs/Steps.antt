@@ -1,10 +1,6 @@
 -- The first line of an input and its fault; the remaining items of a list.
-use Rattle.std.proofs.Common.{◌≡◌, ◌≢◌, ℕ, ◌<◌, ◌==◌, false, List, [], ◌∷◌, Option, Some, None, Result, Ok, Err, ◌+◌, Bor, All, map, drop, drop-cons, add-one, suc, get_or, length, length-append, refl, ap, sym, ◌∙◌, arith, lit<}
-use Rattle.std.proofs.lemmas.Bool.{ne_eqb}
+use Rattle.std.proofs.Common.{◌≡◌, ℕ, ◌<◌, List, [], ◌∷◌, Result, Ok, Err, ◌+◌, map, drop, drop-cons, add-one, suc, get_or, length, refl, ap, sym, ◌∙◌}
 use Rattle.std.proofs.lemmas.List.{drop-map}
-use Rattle.std.proofs.lemmas.List.Elements.{All-from_get_or}
-use Rattle.std.proofs.lemmas.List.Splits.{slice_split_at, slice_split_none}
-use Rattle.std.proofs.lemmas.Str.Pattern.{IsSplitOnceResult, split_parts}
 use Rattle.jj_program.specs.declared.fault.LineFault.{LineFault}
 use Rattle.jj_program.specs.declared.fault.Fault.{Fault}
 use Rattle.jj_program.specs.declared.fault.Fault.TheVariants.{ReadInput, NotUtf8, Memory, WriteOutput, Matchers, Line}
@@ -16,28 +12,10 @@ pub drop_map_next : {A : Type 0} (view : A → List ℕ) (items : List A) (i : �
 drop_map_next view items i d h =
     drop-map view i items ∙ ap (map view) (drop-cons items i d h) ∙ ap (λ l. view (get_or items i d) ∷ l) (sym (rw add-one (drop-map view (suc i) items)))
 
-ends_no_line : (text : List ℕ) → ((i : ℕ) → i < length text → get_or text i 0 ≢ 10) → All (λ b. (b == 10) ≡ false) text
-ends_no_line text other = All-from_get_or (λ b. (b == 10) ≡ false) text 0 (λ i within. ne_eqb (get_or text i 0) 10 (other i within))
-
 -- an input with a line feed is its first line and a remainder
 pub record IsFirstLine (text line behind : List ℕ) : Type 0 where
   pub first : lines_of text ≡ line ∷ lines_of behind
   pub shorter : length behind < length text
-
-pub first_line : (text : List ℕ) (r : Option (Bor (List ℕ) × Bor (List ℕ))) (x : Bor (List ℕ) × Bor (List ℕ)) → IsSplitOnceResult 10 text r → r ≡ Some x
-    → IsFirstLine text x.0.now x.1.now
-first_line text r x split is =
-    let (cut, plain) = rw is at (split_parts 10 text r split (lit< tt)) in
-    record {
-      first = ap lines_of cut ∙ slice_split_at (λ b. b == 10) x.0.now 10 x.1.now (ends_no_line x.0.now plain) refl;
-      shorter = omega (arith, ap length cut, length-append x.0.now (10 ∷ x.1.now));
-    }
-
--- an input without a line feed is one line
-pub one_line : (text : List ℕ) (r : Option (Bor (List ℕ) × Bor (List ℕ))) → IsSplitOnceResult 10 text r → r ≡ None → lines_of text ≡ text ∷ []
-one_line text r split is =
-    let plain = rw is at (split_parts 10 text r split (lit< tt)) in
-    slice_split_none (λ b. b == 10) text (ends_no_line text plain)
 
 -- a line's fault is that of the remaining lines
 pub IsFaultOf-first : {S : Type 0} (fault : Fault) (first : Result S Fault) (more : S → Result S Fault) (whole : Result S Fault)
@@ -59,10 +37,10 @@ module _ {S : Type 0} (step : S → List (List ℕ) → Result S LineFault) wher
       ∙ sym (ap (after_lines step number state) cut.first) ∙ all
 
   -- a line's fault is that of the input
-  pub line_fault : (fault : Fault) (number : ℕ) (state : S) (text line behind : List ℕ) (whole : Result S Fault) → IsFirstLine text line behind
+  pub line_fault : (fault : Fault) (number : ℕ) (state : S) (text line : List ℕ) (behind : List (List ℕ)) (whole : Result S Fault) → lines_of text ≡ line ∷ behind
       → after_lines step number state (lines_of text) ≡ whole → IsFaultOf fault (after_line step number state line) → IsFaultOf fault whole
-  line_fault fault number state text line behind whole cut all found =
-      IsFaultOf-first fault _ (λ further. after_lines step (number + 1) further (lines_of behind)) whole (sym (ap (after_lines step number state) cut.first) ∙ all) found
+  line_fault fault number state text line behind whole first all found =
+      IsFaultOf-first fault _ (λ further. after_lines step (number + 1) further behind) whole (sym (ap (after_lines step number state) first) ∙ all) found
 
   -- the last line
   last_of : (number : ℕ) (r : Result S Fault) → result_and_then r (λ further. after_lines step (number + 1) further []) ≡ r

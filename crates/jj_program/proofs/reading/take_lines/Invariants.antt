@@ -5,12 +5,12 @@ use denote.Text.{Utf8}
 use Rattle.jj_program.specs.Lines.{lines_of, after_lines}
 use Rattle.jj_program.proofs.reading.take_lines.Given as goal
 
-abbrev pub invariant-loop-line : goal.invariant-loop-line
-invariant-loop-line g l =
+abbrev pub invariant-loop-fields : goal.invariant-loop-fields
+invariant-loop-fields g l =
     (after_lines g.M.Reading.step l.line_number (g.M.Reading.state l.reading) (lines_of l.rest)
     ≡ after_lines g.M.Reading.step 1 (g.M.Reading.state l.initial.reading) (lines_of l.fn.text))
     × (l.line_number + length l.rest ≤ 1 + length l.fn.text)
     × shadow (Utf8 l.rest)
 
-abbrev pub decreases-loop-line : goal.decreases-loop-line
-decreases-loop-line g l = length l.rest
+abbrev pub decreases-loop-fields : goal.decreases-loop-fields
+decreases-loop-fields g l = length l.rest
