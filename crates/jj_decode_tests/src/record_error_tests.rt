@@ -35,10 +35,15 @@ fn error_with<T: ReadContent>(
     Ok(error_of::<T>(alloc, &bytes))
 }
 
+// The content of a value that it drops.
+fn content_of_value<T: ContentHash + Drop>(alloc: Global, value: T) -> Result<Vec<u8>, AllocError> {
+    content_of(alloc, &value)
+}
+
 #[test]
 fn truncated_files(rt: HostRuntime) -> Result<(), Fail> {
     let alloc = rt.alloc();
-    let bytes = content_of(alloc, &records::file(alloc)?)?;
+    let bytes = content_of_value(alloc, records::file(alloc)?)?;
     for (length, offset) in [
         (0, 0),
         (3, 0),
@@ -177,7 +182,7 @@ fn unordered_keys(rt: HostRuntime) -> Result<(), Fail> {
 #[test]
 fn commits_with_a_replaced_byte(rt: HostRuntime) -> Result<(), Fail> {
     let alloc = rt.alloc();
-    let bytes = content_of(alloc, &records::commit(alloc)?)?;
+    let bytes = content_of_value(alloc, records::commit(alloc)?)?;
     for (index, byte, reason, offset) in [
         (7, 1, Malformation::Truncated, 0),
         (46, 2, Malformation::InvalidValue, 46),
@@ -195,7 +200,7 @@ fn commits_with_a_replaced_byte(rt: HostRuntime) -> Result<(), Fail> {
 #[test]
 fn operations_with_a_replaced_byte(rt: HostRuntime) -> Result<(), Fail> {
     let alloc = rt.alloc();
-    let bytes = content_of(alloc, &records::operation(alloc)?)?;
+    let bytes = content_of_value(alloc, records::operation(alloc)?)?;
     for (index, byte, reason, offset) in [
         (52, 255, Malformation::Truncated, 52),
         (60, 0x80, Malformation::InvalidUtf8, 52),

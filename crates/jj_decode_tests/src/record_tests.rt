@@ -44,33 +44,38 @@ fn check<T: ReadContent, R: Abort>(rt: &R, alloc: Global, value: &T) -> Result<(
     Ok(())
 }
 
+// Checks a value that it drops. A test that kept the value would drop it on each of its paths, and
+// each drop is proved.
+fn check_value<T: ReadContent, R: Abort>(rt: &R, alloc: Global, value: T) -> Result<(), Fail> {
+    check(rt, alloc, &value)
+}
+
 #[test]
 fn ids_names_paths_and_merges(rt: HostRuntime) -> Result<(), Fail> {
     let alloc = rt.alloc();
-    let commit: CommitId = records::id(alloc, 1)?;
-    check(&rt, alloc, &commit)?;
-    check(&rt, alloc, &RefNameBuf::from_text(alloc, "ä/b")?)?;
-    check(&rt, alloc, &records::component(alloc, "ä")?)?;
-    check(&rt, alloc, &RepoPathBuf::root(alloc))?;
-    check(&rt, alloc, &records::path(alloc, "dir/file")?)?;
-    check(&rt, alloc, &records::target(alloc)?)?;
+    check_value::<CommitId, _>(&rt, alloc, records::id(alloc, 1)?)?;
+    check_value(&rt, alloc, RefNameBuf::from_text(alloc, "ä/b")?)?;
+    check_value(&rt, alloc, records::component(alloc, "ä")?)?;
+    check_value(&rt, alloc, RepoPathBuf::root(alloc))?;
+    check_value(&rt, alloc, records::path(alloc, "dir/file")?)?;
+    check_value(&rt, alloc, records::target(alloc)?)?;
     Ok(())
 }
 
 #[test]
 fn records_of_backends(rt: HostRuntime) -> Result<(), Fail> {
     let alloc = rt.alloc();
-    check(&rt, alloc, &MillisSinceEpoch(i64::MIN))?;
-    check(&rt, alloc, &records::time(-1))?;
-    check(&rt, alloc, &records::signature(alloc, "author")?)?;
-    check(&rt, alloc, &records::secure_sig(alloc)?)?;
-    check(&rt, alloc, &records::file(alloc)?)?;
-    check(&rt, alloc, &TreeValue::Symlink(records::id(alloc, 1)?))?;
-    check(&rt, alloc, &TreeValue::Tree(records::id(alloc, 1)?))?;
-    check(&rt, alloc, &TreeValue::GitSubmodule(records::id(alloc, 1)?))?;
-    check(&rt, alloc, &records::tree(alloc)?)?;
-    check(&rt, alloc, &records::commit(alloc)?)?;
-    check(&rt, alloc, &records::history(alloc)?)?;
+    check_value(&rt, alloc, MillisSinceEpoch(i64::MIN))?;
+    check_value(&rt, alloc, records::time(-1))?;
+    check_value(&rt, alloc, records::signature(alloc, "author")?)?;
+    check_value(&rt, alloc, records::secure_sig(alloc)?)?;
+    check_value(&rt, alloc, records::file(alloc)?)?;
+    check_value(&rt, alloc, TreeValue::Symlink(records::id(alloc, 1)?))?;
+    check_value(&rt, alloc, TreeValue::Tree(records::id(alloc, 1)?))?;
+    check_value(&rt, alloc, TreeValue::GitSubmodule(records::id(alloc, 1)?))?;
+    check_value(&rt, alloc, records::tree(alloc)?)?;
+    check_value(&rt, alloc, records::commit(alloc)?)?;
+    check_value(&rt, alloc, records::history(alloc)?)?;
     Ok(())
 }
 
@@ -81,13 +86,13 @@ fn records_of_operation_stores(rt: HostRuntime) -> Result<(), Fail> {
         start: records::time(1),
         end: records::time(2),
     };
-    check(&rt, alloc, &RemoteRefState::New)?;
-    check(&rt, alloc, &RemoteRefState::Tracked)?;
-    check(&rt, alloc, &records::remote_ref(alloc)?)?;
-    check(&rt, alloc, &records::remote_view(alloc)?)?;
-    check(&rt, alloc, &records::view(alloc)?)?;
-    check(&rt, alloc, &range)?;
-    check(&rt, alloc, &records::metadata(alloc)?)?;
-    check(&rt, alloc, &records::operation(alloc)?)?;
+    check_value(&rt, alloc, RemoteRefState::New)?;
+    check_value(&rt, alloc, RemoteRefState::Tracked)?;
+    check_value(&rt, alloc, records::remote_ref(alloc)?)?;
+    check_value(&rt, alloc, records::remote_view(alloc)?)?;
+    check_value(&rt, alloc, records::view(alloc)?)?;
+    check_value(&rt, alloc, range)?;
+    check_value(&rt, alloc, records::metadata(alloc)?)?;
+    check_value(&rt, alloc, records::operation(alloc)?)?;
     Ok(())
 }

@@ -76,17 +76,36 @@ pub fn file(alloc: Global) -> Result<TreeValue, AllocError> {
     })
 }
 
+fn push_entry(
+    alloc: Global,
+    entries: &mut Vec<(RepoPathComponentBuf, TreeValue)>,
+    name: &str,
+    value: TreeValue,
+) -> Result<(), Fail> {
+    entries.push((component(alloc, name)?, value))?;
+    Ok(())
+}
+
+fn push_entries(
+    alloc: Global,
+    entries: &mut Vec<(RepoPathComponentBuf, TreeValue)>,
+) -> Result<(), Fail> {
+    push_entry(alloc, entries, "file", file(alloc)?)?;
+    push_entry(alloc, entries, "link", TreeValue::Symlink(id(alloc, 3)?))?;
+    push_entry(alloc, entries, "tree", TreeValue::Tree(id(alloc, 4)?))?;
+    push_entry(
+        alloc,
+        entries,
+        "submodule",
+        TreeValue::GitSubmodule(id(alloc, 5)?),
+    )
+}
+
 /// Creates a tree with an entry of each kind.
 pub fn tree(alloc: Global) -> Result<Tree, Fail> {
-    Ok(Tree::from_entries(vec![in alloc;
-        (component(alloc, "file")?, file(alloc)?),
-        (component(alloc, "link")?, TreeValue::Symlink(id(alloc, 3)?)),
-        (component(alloc, "tree")?, TreeValue::Tree(id(alloc, 4)?)),
-        (
-            component(alloc, "submodule")?,
-            TreeValue::GitSubmodule(id(alloc, 5)?)
-        ),
-    ]?)?)
+    let mut entries = Vec::new(alloc);
+    push_entries(alloc, &mut entries)?;
+    Ok(Tree::from_entries(entries)?)
 }
 
 /// Creates a copy history.
