@@ -12,7 +12,7 @@ use crate::merging::merge_branches;
 use jj_backend::backend::Backend;
 use jj_ids::object_id::CommitId;
 use jj_sqlite::store::open_store;
-use sqlite::Connection;
+use sqlite::{Alter, Connection};
 use std::alloc::Global;
 use std::env;
 use std::process::ExitCode;
@@ -40,13 +40,23 @@ fn run<B: Backend>(
     }
 }
 
+// Opens the store and runs a command. Generic over the file, so that a drop of the store is proved
+// without the types of a file.
+fn run_on_store<S: Alter + Drop>(
+    alloc: Global,
+    conn: Connection<S>,
+    command: &[String],
+) -> Result<Option<String>, Fault> {
+    let mut store = open_store(alloc, conn)?;
+    run(alloc, &mut store, command)
+}
+
 fn run_on_file(rt: &HostRuntime, words: &[String]) -> Result<Option<String>, Fault> {
     let [file, command @ ..] = words else {
         return Ok(None);
     };
     let conn = Connection::open(rt, file.as_str())?;
-    let mut store = open_store(rt.alloc(), conn)?;
-    run(rt.alloc(), &mut store, command)
+    run_on_store(rt.alloc(), conn, command)
 }
 
 fn words(rt: &HostRuntime) -> Option<Vec<String>> {
