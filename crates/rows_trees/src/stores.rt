@@ -341,15 +341,20 @@ fn behavior_of(name: &str) -> Result<Option<Behavior>, RowError> {
     }
 }
 
-// DESCRIPTION IS_ROOT: the root commit with this description, and with itself as parent unless
-// IS_ROOT is set.
-fn commit_of(alloc: Global, backend: &MemoryBackend, fields: &Fields) -> Result<Commit, RowError> {
-    let root = backend.root_commit_id();
-    let mut commit = expect_ok(backend.read_commit(alloc, root))?;
+// DESCRIPTION IS_ROOT: sets the description, and adds the root as a parent unless IS_ROOT is set.
+fn edit_commit(commit: &mut Commit, root: &CommitId, fields: &Fields) -> Result<(), RowError> {
     commit.description = fields.owned(1)?;
     if !fields.flag(2) {
         commit.parents.push(root.clone()?)?;
     }
+    Ok(())
+}
+
+// The root commit as `edit_commit` changes it.
+fn commit_of(alloc: Global, backend: &MemoryBackend, fields: &Fields) -> Result<Commit, RowError> {
+    let root = backend.root_commit_id();
+    let mut commit = expect_ok(backend.read_commit(alloc, root))?;
+    edit_commit(&mut commit, root, fields)?;
     Ok(commit)
 }
 

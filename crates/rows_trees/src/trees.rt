@@ -420,6 +420,16 @@ fn list_tree(
     Ok(())
 }
 
+fn write_chosen(
+    alloc: Global,
+    backend: &mut MemoryBackend,
+    merge: &TreeMerge,
+    terms: &[u8],
+) -> Result<TreeId, RowError> {
+    let chosen = chosen_values(alloc, merge, terms)?;
+    expect_ok(write_back(alloc, backend, merge, &chosen))
+}
+
 // SAME_CHANGE LEVELS ROOTS TERMS | .. | LABELS
 fn put_written(
     alloc: Global,
@@ -435,8 +445,7 @@ fn put_written(
     let levels = fields.index(1);
     let merged = merge_labeled(alloc, backend, &roots, &labels, same_change, levels)?;
     let merge = expect_ok(merged)?;
-    let chosen = chosen_values(alloc, &merge, fields.bytes(3))?;
-    let id = expect_ok(write_back(alloc, backend, &merge, &chosen))?;
+    let id = write_chosen(alloc, backend, &merge, fields.bytes(3))?;
     list_tree(alloc, backend, RepoPath::root(), &id, LISTED_LEVELS, values)
 }
 
