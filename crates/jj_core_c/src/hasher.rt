@@ -28,7 +28,7 @@ pub struct JjHasher {
     pub is_full: u64,
 }
 
-fn loaded(fields: &JjHasher) -> Blake2b512
+fn load_hasher(fields: &JjHasher) -> Blake2b512
     ensures { result ≡ hasher_of fields.now }
 {
     Blake2b512 {
@@ -39,7 +39,7 @@ fn loaded(fields: &JjHasher) -> Blake2b512
     }
 }
 
-fn stored(hasher: Blake2b512) -> JjHasher
+fn store_hasher(hasher: Blake2b512) -> JjHasher
     ensures { hasher_of result ≡ hasher }
 {
     let chaining = hasher.h;
@@ -57,7 +57,7 @@ fn write_digest_of(hasher: &JjHasher, digest: &mut [u8]) -> Result<usize, Error>
     ensures { MatchResult result (WritesDigest (hasher_of hasher.now) digest.old digest.new)
         (Fails digest.old digest.new (IsLengthCause 64 (length digest.old))) }
 {
-    write_digest(&loaded(hasher).finalize(), digest)
+    write_digest(&load_hasher(hasher).finalize(), digest)
 }
 
 // Hashes two byte strings as one, by the exports only.
@@ -86,7 +86,7 @@ pub(crate) fn hash_two(first: &[u8], second: &[u8], digest: &mut [u8]) -> i64
 pub extern "C" fn jj_hasher_start(hasher: &mut JjHasher)
     ensures { HasAbsorbed (hasher_of hasher.new) [] }
 {
-    *hasher = stored(Blake2b512::new());
+    *hasher = store_hasher(Blake2b512::new());
 }
 
 /// Appends bytes to the message. O(bytes).
@@ -96,9 +96,9 @@ pub extern "C" fn jj_hasher_start(hasher: &mut JjHasher)
 pub extern "C" fn jj_hasher_update(hasher: &mut JjHasher, bytes: &[u8])
     ensures { Absorbs HasAbsorbed (hasher_of hasher.old) (hasher_of hasher.new) bytes.now }
 {
-    let mut loaded = loaded(hasher);
-    loaded.update(bytes);
-    *hasher = stored(loaded);
+    let mut absorbing = load_hasher(hasher);
+    absorbing.update(bytes);
+    *hasher = store_hasher(absorbing);
 }
 
 /// Writes the digest of the message, to which more can be appended afterwards. Returns 64.

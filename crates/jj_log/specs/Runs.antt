@@ -1,6 +1,7 @@
 -- Runs of the program, and the causes of their errors.
--- Cited by contracts of public items: FailsBy, WritesLog, is_read_fault, is_write_fault.
-use Rattle.std.specs.Prelude.{◌≡◌, ℕ, Bool, true, false, List, get_or, Result, Err}
+-- Cited by contracts of public items: FailsBy, WritesLog,
+-- is_read_failure, is_read_fault, is_write_failure, is_write_fault.
+use Rattle.std.specs.Prelude.{◌≡◌, ℕ, Bool, true, false, List, get_or, Result, Ok, Err}
 use Rattle.std.specs.Io.KnownBytes.{Appends, Consumes, IsAtEnd}
 use Rattle.std.specs.Str.{IsUtf8}
 use Rattle.jj_files.specs.Streams.{Streams}
@@ -18,15 +19,23 @@ abbrev pub WritesLog : Streams → Streams → Type 0
 WritesLog old new = (input drawing : List ℕ) × Consumes old.unread new.unread input
     × IsAtEnd new.unread × DrawsInput input drawing × Appends old.written new.written drawing
 
+abbrev pub is_read_failure : Fault → Bool
+is_read_failure ReadInput = true
+is_read_failure fault = false
+
+abbrev pub is_write_failure : Fault → Bool
+is_write_failure WriteOutput = true
+is_write_failure fault = false
+
 -- a run ended with a failed read
 abbrev pub is_read_fault : {A : Type 0} → Result A Fault → Bool
-is_read_fault (Err ReadInput) = true
-is_read_fault result = false
+is_read_fault (Err fault) = is_read_failure fault
+is_read_fault (Ok value) = false
 
 -- a run ended with a failed write
 abbrev pub is_write_fault : {A : Type 0} → Result A Fault → Bool
-is_write_fault (Err WriteOutput) = true
-is_write_fault result = false
+is_write_fault (Err fault) = is_write_failure fault
+is_write_fault (Ok value) = false
 
 -- the log of the commits of the input has an error at the commit of the line with this number
 abbrev pub IsLogFault : (ℕ → LogError) → List ℕ → ℕ → Type 0

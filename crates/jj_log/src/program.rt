@@ -4,7 +4,7 @@ ghost use Rattle.std.specs.Io.KnownBytes.{Consumes, IsAtEnd};
 ghost use Rattle.jj_files.specs.Streams.{streams};
 ghost use Rattle.jj_log.specs.InputLines.{AreCommitsOf, DrawsInput};
 ghost use Rattle.jj_log.specs.LogDrawings.{IsLogError};
-ghost use Rattle.jj_log.specs.Runs.{FailsBy, IsInputFault, WritesLog, is_read_fault, is_write_fault};
+ghost use Rattle.jj_log.specs.Runs.{FailsBy, IsInputFault, WritesLog, is_read_failure, is_read_fault, is_write_failure, is_write_fault};
 ghost use Rattle.jj_log.specs.declared.commits.Commit.{Commit};
 ghost use Rattle.jj_log.specs.declared.fault.Fault.{Fault};
 
@@ -129,7 +129,10 @@ pub fn start<R: Source, W: Sink, E: Sink>(
         × (E.contents errors.new ≡ E.contents errors.old) }
     ensures failure { result ≡ 1 → (fault : Fault) × FailsBy
         (streams (R.remaining reader.old) (W.contents writer.old))
-        (streams (R.remaining reader.new) (W.contents writer.new)) fault }
+        (streams (R.remaining reader.new) (W.contents writer.new)) fault
+        × (fault ≢ Fault.WriteOutput → W.contents writer.new ≡ W.contents writer.old)
+        × (R.has_failed reader.old ≡ false → R.has_failed reader.new ≡ is_read_failure fault)
+        × (W.has_failed writer.old ≡ false → W.has_failed writer.new ≡ is_write_failure fault) }
 {
     match run(alloc, reader, writer) {
         Ok(()) => 0,
