@@ -1,6 +1,7 @@
 //! Tests and proved callers of jj_decode.
 #![tactic(auto)]
 
+#[cfg(test)]
 pub mod callers;
 #[cfg(test)]
 mod error_tests;
