@@ -5,8 +5,8 @@ use Rattle.jj_paths.specs.Orders.{path_eq}
 use Rattle.jj_matchers.specs.Patterns.{Patterns, HasSamePatterns, pattern_dirs}
 use Rattle.jj_matchers.specs.PathLists.{HasSamePaths, is_at_or_below}
 use Rattle.jj_program.specs.declared.file_set.matcher.FileSet.TheVariants.{Everything, Nothing, Files, Prefix, Globs}
-use Rattle.jj_program.specs.Matching.{IsAlike}
-use Rattle.jj_program.specs.Walked.{leaf_spec}
+use Rattle.jj_program.specs.SetCode.{IsAlike}
+use Rattle.jj_program.specs.WalkCommand.{leaf_spec}
 use Rattle.jj_program.proofs.SamePaths.{same_files_answer, same_prefix_answer}
 use Rattle.jj_program.proofs.SamePatterns.{same_names, same_dirs, same_accepted, same_patterns_answer}
 

@@ -6,7 +6,7 @@ use Rattle.std.proofs.lemmas.List.{take_more, get_or-map, length-map, map-append
 use Rattle.jj_program.specs.declared.fault.StepFault.{StepFault}
 use Rattle.jj_program.specs.declared.fault.StepFault.TheVariants.{Memory, Line}
 use Rattle.jj_program.specs.Forms.{Kind, value_at, values_at}
-use Rattle.jj_program.specs.Steps.{IsStepFaultOf}
+use Rattle.jj_program.specs.Lines.{IsStepFaultOf}
 
 module _ {A : Type 0} (kind : Kind A) where
   -- a valid field

@@ -1,19 +1,18 @@
 -- Line faults name the first faulty line.
-use Rattle.std.proofs.Common.{◌≡◌, ◌∙◌, ℕ, ◌+◌, ◌-◌, ◌<◌, ◌≤◌, zero, suc, Bool, true, false, List, [], ◌∷◌, length, take, drop, Result, Ok, Err, is_ok, refl, ap, sym, subst, arith, true≢false}
+use Rattle.std.proofs.Common.{◌≡◌, ◌∙◌, ℕ, ◌+◌, ◌-◌, ◌<◌, ◌≤◌, zero, suc, Bool, true, false, List, [], ◌∷◌, length, take, drop, Result, Ok, Err, is_ok, refl, ap, sym, subst, arith, true≢false, None}
 use Rattle.std.specs.Result.{result_map_both}
 use Rattle.jj_program.specs.declared.fault.Fault.{Fault}
 use Rattle.jj_program.specs.declared.fault.Fault.TheVariants.{Memory, Line}
 use Rattle.jj_program.specs.declared.fault.LineFault.{LineFault}
 use Rattle.jj_program.specs.declared.program.Command.TheVariants.{Walk, Merge, Graph, Hash}
-use Rattle.jj_program.specs.FirstFaults.{BeginAlike, GivesFirstFault}
-use Rattle.jj_program.specs.GraphCommand.{graph_step, graph_start}
+use Rattle.jj_program.specs.Laws.{BeginAlike, GivesFirstFault}
+use Rattle.jj_program.specs.GraphCommand.{graph_step, GraphState}
 use Rattle.jj_program.specs.HashCommand.{hash_step}
 use Rattle.jj_program.specs.Lines.{lines_of, fields_of, after_line, after_lines, result_and_then}
 use Rattle.jj_program.specs.MergeCommand.{merge_step}
 use Rattle.jj_program.specs.declared.file_set.matcher.FileSet.{FileSet}
-use Rattle.jj_program.specs.SetTrees.{SetTree}
+use Rattle.jj_program.specs.WalkCommand.{SetTree, WalkState, walk_step, only_set, WalkRequest}
 use Rattle.jj_paths.specs.Paths.{Path}
-use Rattle.jj_program.specs.WalkCommand.{WalkState, walk_step, walk_start, only_set, WalkRequest}
 
 -- 1. Faults of different lines differ.
 
@@ -137,14 +136,21 @@ walk_lines_fail (Err fault) number kind e = ap Err (ap (fault_or fault) e)
 earlier_is_not : (number earlier : ℕ) → number ≤ earlier → earlier < number → ⊥
 earlier_is_not number earlier h k = absurd (omega (arith, h, k))
 
+-- the initial states
+abbrev begun : WalkState
+begun = record { marks = []; stack = [] }
+
+abbrev unlisted : GraphState
+unlisted = record { listed = λ id. None; requests = [] }
+
 pub gives_first_fault : GivesFirstFault
 gives_first_fault Walk text number kind e =
     let lines = walk_lines_fail _ number kind e in
     record {
-      there = whole walk_step walk_start text number kind lines;
-      decided = λ other alike. ap (λ r. result_and_then r only) (whole_decided walk_step walk_start text other number kind lines alike);
+      there = whole walk_step begun text number kind lines;
+      decided = λ other alike. ap (λ r. result_and_then r only) (whole_decided walk_step begun text other number kind lines alike);
       first = λ other earlier fault alike less f. earlier_is_not number earlier
-          (whole_first walk_step walk_start text other number earlier kind fault lines alike (walk_lines_fail _ earlier fault f)) less;
+          (whole_first walk_step begun text other number earlier kind fault lines alike (walk_lines_fail _ earlier fault f)) less;
     }
 gives_first_fault Merge text number kind e = record {
   there = whole merge_step [] text number kind e;
@@ -152,9 +158,9 @@ gives_first_fault Merge text number kind e = record {
   first = λ other earlier fault alike less f. earlier_is_not number earlier (whole_first merge_step [] text other number earlier kind fault e alike f) less;
 }
 gives_first_fault Graph text number kind e = record {
-  there = whole graph_step graph_start text number kind e;
-  decided = λ other alike. whole_decided graph_step graph_start text other number kind e alike;
-  first = λ other earlier fault alike less f. earlier_is_not number earlier (whole_first graph_step graph_start text other number earlier kind fault e alike f) less;
+  there = whole graph_step unlisted text number kind e;
+  decided = λ other alike. whole_decided graph_step unlisted text other number kind e alike;
+  first = λ other earlier fault alike less f. earlier_is_not number earlier (whole_first graph_step unlisted text other number earlier kind fault e alike f) less;
 }
 gives_first_fault Hash text number kind e = record {
   there = whole hash_step [] text number kind e;

@@ -23,11 +23,10 @@ use Rattle.jj_program.specs.declared.walk_command.TheConstants.{WALK_FORMS}
 use Rattle.jj_program.specs.declared.walk_command.WalkForm.{WalkForm}
 use Rattle.jj_program.specs.declared.walk_command.WalkForm.TheVariants.{Mark, Push, Combine}
 use Rattle.jj_program.specs.Forms.{Kind, admits, first_fields, form_line, form_named, second_fields, table, values_at}
-use Rattle.jj_program.specs.GraphCommand.{graph_line, number_kind}
+use Rattle.jj_program.specs.GraphCommand.{graph_line, number_kind, is_number}
 use Rattle.jj_program.specs.HashCommand.{bytes_of_hex, hash_line, hashed}
 use Rattle.jj_program.specs.LineFaults.{fails_by, graph_fails, hash_fails, is_repeated, kind_of_fields, kinds, lists_node, sets_left, walk_fails}
 use Rattle.jj_program.specs.Lines.{fields_of, result_and_then}
-use Rattle.jj_program.specs.Numbers.{is_number}
 use Rattle.jj_program.specs.WalkCommand.{glob_kind, path_kind, walk_line}
 use Rattle.jj_program.proofs.ParsedForms.{admitted, both}
 

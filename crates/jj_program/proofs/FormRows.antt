@@ -9,7 +9,7 @@ use Rattle.jj_program.specs.declared.forms.Shape.{Shape}
 use Rattle.jj_program.specs.declared.merge_command.Question.{Question}
 use Rattle.jj_program.specs.declared.merge_command.TheConstants.{MERGE_FORMS}
 use Rattle.jj_program.specs.Forms.{Form, admits, form_line, form_named, table}
-use Rattle.jj_program.specs.HashViews.{HasSize}
+use Rattle.jj_program.specs.HashCommand.{HasSize}
 use Rattle.jj_program.proofs.ParsedForms.{admitted}
 
 abbrev ok_or : {X : Type 0} → X → Result X LineFault → X

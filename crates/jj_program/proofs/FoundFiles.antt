@@ -13,9 +13,7 @@ use Rattle.jj_program.specs.declared.file_set.matcher.FileSet.{FileSet}
 use Rattle.jj_program.specs.declared.file_set.matcher.FileSet.TheVariants.{Everything, Nothing, Files, Prefix, Globs}
 use Rattle.jj_program.specs.FoundFiles.{IsNamed, IsIn, AreFound, FindsItsFiles}
 use Rattle.jj_matchers.specs.Marks.{IsMarkedTree}
-use Rattle.jj_program.specs.SetTrees.{SetTree, one, both}
-use Rattle.jj_program.specs.Walked.{leaf_spec, spec_of}
-use Rattle.jj_program.specs.WalkCommand.{WalkRequest}
+use Rattle.jj_program.specs.WalkCommand.{SetTree, one, both, leaf_spec, spec_of, WalkRequest}
 
 -- 1. A set's test is its meaning.
 

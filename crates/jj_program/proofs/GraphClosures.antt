@@ -16,9 +16,8 @@ use Rattle.jj_dag.proofs.ClosureGraphs.{may_return_says}
 use Rattle.jj_dag.proofs.Walking.{has}
 use Rattle.jj_program.specs.declared.graph_walks.SoundNodes.{SoundNodes}
 use Rattle.jj_program.specs.declared.listed_graph.ListedGraph.{ListedGraph}
-use Rattle.jj_program.specs.ListedGraphs.{IsRowOf, named_by, shown_by}
-use Rattle.jj_program.specs.Numbering.{id_of}
-use Rattle.jj_program.specs.SoundNodes.{sound_left}
+use Rattle.jj_program.specs.ListedGraphs.{IsRowOf, named_by, shown_by, sound_left}
+use Rattle.jj_program.specs.Parts.{id_of}
 use Rattle.jj_program.proofs.ListedEdges.{holds_more}
 use Rattle.jj_program.proofs.ListedGraphs.{copied_nodes, given_nodes}
 use Rattle.jj_program.proofs.NumberedWalks.{id_within, numbered, numbers_apart, within_ids}

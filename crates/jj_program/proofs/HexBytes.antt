@@ -6,7 +6,8 @@ use Rattle.std.proofs.lemmas.List.Elements.{All-head, All-tail}
 use Rattle.std.proofs.lemmas.Option.{none-some, same_Some}
 use Rattle.jj_content.specs.Hex.{IsByte, hex_digits, digit_value, encode_with, DecodesTo, is_whole_hex}
 use Rattle.jj_content.proofs.HexCoding.{are_hex_digits, digit_value-same, encode_with-cons, DecodesTo-nil, DecodesTo-cons, DecodesTo-length, DecodesTo-is_text}
-use Rattle.jj_program.specs.HashCommand.{bytes_of_hex, with_byte}
+use Rattle.jj_program.specs.HashCommand.{bytes_of_hex}
+use Rattle.std.specs.Prelude.{option_and_then, option_map}
 
 abbrev Reads : List ℕ → List ℕ → Type 0
 Reads text bytes = DecodesTo hex_digits text bytes
@@ -43,7 +44,7 @@ found_reads (a ∷ []) bytes found = absurd (none-some _ found)
 found_reads (a ∷ b ∷ text) bytes found = by_digits (found_reads text) (digit_value hex_digits a) (digit_value hex_digits b) (bytes_of_hex text) refl refl refl found
   where
     by_digits : ((rest : List ℕ) → bytes_of_hex text ≡ Some rest → Reads text rest) → (high low : Option ℕ) (rest : Option (List ℕ)) → digit_value hex_digits a ≡ high → digit_value hex_digits b ≡ low → bytes_of_hex text ≡ rest
-        → with_byte high low rest ≡ Some bytes → Reads (a ∷ b ∷ text) bytes
+        → option_and_then (λ h. option_and_then (λ l. option_map (λ bytes. (h * 16 + l) ∷ bytes) rest) low) high ≡ Some bytes → Reads (a ∷ b ∷ text) bytes
     by_digits further (Some high) (Some low) (Some rest) h l r is =
         let is_bytes : (high * 16 + low) ∷ rest ≡ bytes = same_Some _ _ is in
         subst (λ found. Reads (a ∷ b ∷ text) found) is_bytes (DecodesTo-cons hex_digits text rest a b high low are_hex_digits (further rest r) h l)

@@ -19,14 +19,13 @@ use Rattle.jj_program.specs.declared.program.Command.{Command}
 use Rattle.jj_program.specs.declared.program.Command.TheVariants.{Walk, Merge, Graph, Hash}
 use Rattle.jj_globs.specs.GlobMeaning.{GlobSpec}
 use Rattle.jj_paths.specs.Paths.{Path}
-use Rattle.jj_program.specs.GraphCommand.{GraphRequest, Order as Order', Heads as Heads', Common as Common', GraphState, graph_start, graph_line, graph_step, graph_act, graph_state, listed_more}
+use Rattle.jj_program.specs.GraphCommand.{GraphRequest, Order as Order', Heads as Heads', Common as Common', GraphState, graph_line, graph_step, graph_act, graph_state}
 use Rattle.jj_program.specs.HashCommand.{hash_line, digest_line, hash_step, hash_output}
 use Rattle.jj_program.specs.LineFaults.{kind_of_fields, first_fault, pushes, combines, sets_left, lists_node, LeavesOneSet, IsToldBy, AnswersFirstFault}
 use Rattle.jj_program.specs.Lines.{lines_of, fields_of, after_lines, result_and_then}
 use Rattle.jj_program.specs.MergeCommand.{merge_step, merge_requests}
 use Rattle.jj_program.specs.declared.file_set.matcher.FileSet.{FileSet}
-use Rattle.jj_program.specs.SetTrees.{SetTree, one, both, combined_stack}
-use Rattle.jj_program.specs.WalkCommand.{WalkState, walk_start, walk_line, walk_step, walk_act, named_set, walk_request, only_set}
+use Rattle.jj_program.specs.WalkCommand.{SetTree, one, both, combined_stack, WalkState, walk_line, walk_step, walk_act, named_set, walk_request, only_set}
 use Rattle.jj_program.proofs.FirstKinds.{first_kind, graph_refuses, kind_by, kind_by_table, walk_refuses}
 
 -- 1. The transition at a line agrees with the definition of its fault.
@@ -145,8 +144,12 @@ walk_steps earlier state line high = by (walk_line (fields_of line)) refl
     by (Ok (Push word, paths, globs)) is = (refl, higher earlier state (record { marks = state.marks; stack = one (named_set word paths globs) ∷ state.stack }) line _ is high (omega arith))
     by (Ok (Combine combination, paths, globs)) is = combined combination paths globs state.stack refl is
 
+-- the initial state
+abbrev begun : WalkState
+begun = record { marks = []; stack = [] }
+
 walk_told : (text : List ℕ) → IsToldBy Walk (lines_of text) (walk_request text)
-walk_told text = by (after_lines walk_step 1 walk_start (lines_of text)) (told Walk walk_step IsHigh (λ earlier state high. higher earlier state state [] (Err UnknownCommand) refl high refl) walk_steps 1 [] (lines_of text) walk_start refl)
+walk_told text = by (after_lines walk_step 1 begun (lines_of text)) (told Walk walk_step IsHigh (λ earlier state high. higher earlier state state [] (Err UnknownCommand) refl high refl) walk_steps 1 [] (lines_of text) begun refl)
   where
     left : (marks : List Path) (stack : List (SetTree FileSet)) → first_fault Walk [] 1 (lines_of text) ≡ None → length stack ≡ sets_left (lines_of text) → IsToldBy Walk (lines_of text) (only_set marks stack)
     left marks [] none high = (none, high, λ e. absurd (omega (arith, e)))
@@ -199,7 +202,7 @@ graph_steps earlier state line listing = by (graph_line (fields_of line)) refl
         rw (e, before) (refl, tt)
     node id neighbors none is false e =
         let before : list_any (λ line. lists_node id (graph_line (fields_of line))) earlier ≡ false = sym (listing id) ∙ e in
-        rw (e, before) (refl, longer earlier state (listed_more state id neighbors) line _ is listing (λ other. more other (id == other)))
+        rw (e, before) (refl, longer earlier state (record { listed = λ other. cond (id == other) (Some neighbors) (state.listed other); requests = state.requests }) line _ is listing (λ other. more other (id == other)))
       where
         more : (other : ℕ) (n : Bool) → is_some (cond n (Some neighbors) (state.listed other)) ≡ (is_some (state.listed other) || n)
         more other true = or_true _
@@ -234,7 +237,7 @@ merge_told text = plain Merge (λ state. Unit {0}) (lines_of text) tt (merge_req
 
 graph_told : (text : List ℕ) → IsToldBy Graph (lines_of text) (graph_state text)
 graph_told text = plain Graph (IsListing (lines_of text)) (lines_of text) tt (graph_state text)
-    (told Graph graph_step IsListing graph_skips graph_steps 1 [] (lines_of text) graph_start (λ id. refl))
+    (told Graph graph_step IsListing graph_skips graph_steps 1 [] (lines_of text) (record { listed = λ id. None; requests = [] }) (λ id. refl))
 
 hash_told : (text : List ℕ) → IsToldBy Hash (lines_of text) (hash_output text)
 hash_told text = plain Hash (λ state. Unit {0}) (lines_of text) tt (hash_output text)

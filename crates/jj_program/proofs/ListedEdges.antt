@@ -1,5 +1,5 @@
 -- Adjacency lists as parts of one array: what one more line adds, and that the array has all neighbours.
-use Rattle.std.proofs.Common.{rules, Equal, Greater, Less, nat_lt, Result, Ok, Err, OnOk, ◌≡◌, ◌∙◌, ◌==◌, ◌+◌, ◌-◌, ◌<◌, ◌≤◌, ◌≢◌, ℕ, zero, suc, Bool, true, false, cond, List, [], ◌∷◌, ◌++◌, length, length-append, get_or, take, drop, map, Option, Some, None, refl, sym, ap, subst, arith, ⊎_elim, true≢false}
+use Rattle.std.proofs.Common.{rules, Equal, Greater, Less, nat_lt, Result, Ok, Err, OnOk, ◌≡◌, ◌∙◌, ◌==◌, ◌-◌, ◌<◌, ◌≤◌, ◌≢◌, ℕ, zero, suc, Bool, true, false, cond, List, [], ◌∷◌, ◌++◌, length, length-append, get_or, take, drop, map, Option, Some, None, refl, sym, ap, subst, arith, ⊎_elim, true≢false}
 use Rattle.std.specs.Prelude.{All, OnErr, if◌then◌else◌, is_some, not, unwrap_or, MatchBool, MatchOption}
 use Rattle.std.specs.BTreeMap.{BTreeMap, get, is_at}
 use Rattle.std.specs.List.{Contains, list_any, slice_range}
@@ -12,15 +12,14 @@ use Rattle.std.proofs.lemmas.Bool.Decides.{Decides-eqb, nat_tests}
 use Rattle.std.proofs.lemmas.Cmp.{ranked}
 use Rattle.std.proofs.Math.Seq.{drop-append_seam}
 use Rattle.std.proofs.lemmas.List.{get_or-map, get_or_append_left, get_or_default, get_or_push, length_push, drop-append-le, drop-map, length-drop, take-append-drop, take-append-le, take-map, take_all}
-use Rattle.std.proofs.lemmas.List.Elements.{All-contains, All-push, Contains-append_left, Contains-append_right}
+use Rattle.std.proofs.lemmas.List.Elements.{All-contains, Contains-append_left, Contains-append_right}
 use Rattle.std.proofs.lemmas.List.Sorted.{IsNonDecreasingBy-from_default}
 use Rattle.jj_dag.proofs.Walking.{has, has-from_Contains, Contains-from_has}
-use Rattle.jj_program.specs.Edges.{listed_by, part_at}
+use Rattle.jj_program.specs.GraphViews.{listed_by, part_at}
 use Rattle.jj_program.specs.GraphCommand.{graph_of}
-use Rattle.jj_program.specs.Neighbors.{HoldsEach, HoldsNeighbors}
-use Rattle.jj_program.specs.Numbering.{id_of}
-use Rattle.jj_program.specs.Parts.{AreAbove, AreBelow, AreParts, Entry, HoldsForNone, IsAscending, part_in}
+use Rattle.jj_program.specs.Parts.{HoldsEach, id_of, AreAbove, AreBelow, AreParts, Entry, HoldsForNone, IsAscending, part_in}
 use Rattle.jj_program.specs.declared.edges.Edges.{Edges}
+use Rattle.jj_program.proofs.ListedGraphs.{HoldsNeighbors}
 
 -- ---- entries in ascending order
 

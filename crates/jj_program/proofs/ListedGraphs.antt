@@ -1,5 +1,5 @@
 -- Listed graphs: cycles, and sorted results of walks.
-use Rattle.std.proofs.Common.{◌≡◌, ◌∙◌, Iter, ℕ, List, [], ◌∷◌, Result, Ok, Err, ap, refl, sym, eqb, map}
+use Rattle.std.proofs.Common.{◌≡◌, ◌∙◌, Iter, ℕ, List, [], ◌∷◌, Result, Ok, Err, ap, refl, sym, eqb, map, ◌==◌, true}
 use Rattle.std.specs.Prelude.{◌++◌}
 use Rattle.std.specs.Iterator.{YieldsFirst}
 use Rattle.std.specs.declared.iter.Copied.{Copied}
@@ -18,11 +18,16 @@ use Rattle.jj_dag.specs.Graph.{Graph, IsAcyclicFrom, AreMaximalElements}
 use Rattle.jj_dag.specs.FallibleGraphs.{BeginsWith}
 use Rattle.jj_dag.proofs.FailingWalks.{begun_are}
 use Rattle.jj_program.specs.declared.graph_walks.SoundNodes.{SoundNodes}
-use Rattle.jj_program.specs.SoundNodes.{sound_left}
+use Rattle.jj_program.specs.ListedGraphs.{sound_left}
 use Rattle.jj_dag.specs.Walk.{DrainsTo}
 use Rattle.jj_dag.proofs.Walking.{drained_are, eqb-flip, Contains-from_has}
-use Rattle.jj_program.specs.Neighbors.{HoldsNeighbors}
 use Rattle.jj_program.specs.GraphCommand.{HasCycle}
+use Rattle.std.specs.List.{list_any, Contains}
+
+-- every neighbour is one of these ids
+abbrev pub HoldsNeighbors : Graph → List ℕ → Type 0
+HoldsNeighbors graph ids = (a b : ℕ) → Contains (graph a) b
+    → list_any (λ id. b == id) ids ≡ true
 
 -- if no id reaches a cycle, the graph is acyclic
 pub none_listed : (graph : Graph) (ids : List ℕ) → HoldsNeighbors graph ids → IsAcyclicFrom graph ids → HasCycle graph → ⊥

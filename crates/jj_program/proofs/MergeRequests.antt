@@ -5,7 +5,7 @@ use Rattle.std.proofs.lemmas.List.{drop-append-le, drop_at, map-append, take-app
 use Rattle.std.proofs.lemmas.List.Elements.{All-head, All-tail, All-weaker}
 use Rattle.jj_program.specs.declared.merge_command.MergeRequest.{MergeRequest as Request}
 use Rattle.jj_program.specs.MergeViews.{IsWithin, request_in}
-use Rattle.jj_program.specs.Texts.{Text, texts_of}
+use Rattle.jj_program.specs.Lines.{Text, texts_of}
 
 module _ {X : Type 0} where
   range_kept : (xs ys : List X) (start end : ℕ) → start ≤ end → end ≤ length xs → slice_range (xs ++ ys) start end ≡ slice_range xs start end
@@ -21,19 +21,19 @@ requests_kept terms new [] all = refl
 requests_kept terms new (request ∷ requests) all =
     let (up, within, odd) = All-head (IsWithin (length terms)) request requests all in
     let same : slice_range (terms ++ new) request.start request.end ≡ slice_range terms request.start request.end = range_kept terms new request.start request.end up within in
-    let first : request_in (terms ++ new) request ≡ request_in terms request = λ i. record { question = request.question; terms = texts_of (same i) } in
+    let first : request_in (terms ++ new) request ≡ request_in terms request = λ i. (request.question, texts_of (same i)) in
     let rest = requests_kept terms new requests (All-tail (IsWithin (length terms)) request requests all) in
     (λ i. first i ∷ rest i)
 
 -- one more request, of the new terms
 pub requests_more : (terms new : List Text) (requests grown : List Request) (request : Request) → All (IsWithin (length terms)) requests → grown ≡ requests ++ request ∷ []
     → request.start ≡ length terms → request.end ≡ length terms + length new
-    → map (request_in (terms ++ new)) grown ≡ map (request_in terms) requests ++ record { question = request.question; terms = texts_of new } ∷ []
+    → map (request_in (terms ++ new)) grown ≡ map (request_in terms) requests ++ (request.question, texts_of new) ∷ []
 requests_more terms new requests grown request all is first last =
     let own : slice_range (terms ++ new) request.start request.end ≡ new = range_new terms new request.start request.end first last in
     ap (map (request_in (terms ++ new))) is
     ∙ map-append (request_in (terms ++ new)) requests (request ∷ [])
-    ∙ (λ i. requests_kept terms new requests all i ++ record { question = request.question; terms = texts_of (own i) } ∷ [])
+    ∙ (λ i. requests_kept terms new requests all i ++ (request.question, texts_of (own i)) ∷ [])
 
 -- requests stay within a longer list
 pub within_more : (n m : ℕ) (requests : List Request) → n ≤ m → All (IsWithin n) requests → All (IsWithin m) requests

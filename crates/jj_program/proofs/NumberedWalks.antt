@@ -14,7 +14,7 @@ use Rattle.std.proofs.lemmas.List.Sums.{get_or-le-sum_by}
 use Rattle.jj_dag.specs.Graph.{Graph}
 use Rattle.jj_dag.specs.Walk.{IsOrderedLike, GraphModel}
 use Rattle.jj_dag.proofs.Walking.{has, has-from_Contains, Contains-from_has}
-use Rattle.jj_program.specs.Numbering.{id_of}
+use Rattle.jj_program.specs.Parts.{id_of}
 
 -- the model: nodes of walks and their ids are both numbers, and the nodes of the graph are ids
 abbrev pub numbered : Graph → List ℕ → GraphModel ℕ ℕ

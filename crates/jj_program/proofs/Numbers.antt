@@ -10,7 +10,7 @@ use Rattle.std.proofs.lemmas.Str.Parse.{IsNumeralModel, numerals_by_value, tells
 use Rattle.std.proofs.lemmas.Fmt.{decimal-digits_value, decimal_is_IsNumeral, decimal_digit, first_decimal}
 use Rattle.std.proofs.lemmas.Slice.Eq.{bytes_eq-Decides}
 use Rattle.std.proofs.lemmas.Bool.{false_from_ne_true}
-use Rattle.jj_program.specs.Numbers.{is_number}
+use Rattle.jj_program.specs.GraphCommand.{is_number}
 
 -- the number of a canonical decimal string
 abbrev pub number_of : List ℕ → Option ℕ

@@ -13,12 +13,10 @@ use Rattle.jj_program.specs.declared.fault.Fault.TheVariants.{NotUtf8}
 use Rattle.jj_program.specs.declared.program.Command.{Command}
 use Rattle.jj_program.specs.declared.program.Command.TheVariants.{Walk, Merge, Graph, Hash}
 use Rattle.jj_matchers.specs.Marks.{IsMarkedTree}
-use Rattle.jj_program.specs.WalkCommand.{WalkRequest}
-use Rattle.jj_program.specs.Walked.{GivesWalk, walk_lines}
-use Rattle.jj_program.specs.declared.merge_command.Question.{Question}
+use Rattle.jj_program.specs.WalkCommand.{WalkRequest, GivesWalk, walk_lines}
 use Rattle.jj_program.specs.declared.merge_command.Question.TheVariants.{Simplify, Resolve}
-use Rattle.jj_program.specs.Requests.{AnswersEach}
-use Rattle.jj_program.specs.MergeCommand.{MergeRequest, IsOutcome, outcome_line, AnswersQuestion, IsMergeAnswer, GivesMerge}
+use Rattle.jj_program.specs.Lines.{AnswersEach}
+use Rattle.jj_program.specs.MergeCommand.{MergeRequest, IsOutcome, outcome_line, IsMergeAnswer, GivesMerge}
 use Rattle.jj_program.specs.Program.{GivesText}
 use Rattle.jj_program.specs.Laws.{GivesOneAnswer}
 use Rattle.jj_program.proofs.OneTree.{one_marked_tree}
@@ -51,11 +49,8 @@ outcome_once same_change terms (Some one) None d none = absurd (none one d.1)
 outcome_once same_change terms (Some one) (Some other) d d' = ap Some (decided_once same_change terms one other d.1 d'.1)
 
 merge_answer_once : (request : MergeRequest) (a b : List ℕ) → IsMergeAnswer request a → IsMergeAnswer request b → a ≡ b
-merge_answer_once request a b is is' = by_question request.question request.terms is is'
-  where
-    by_question : (question : Question) (terms : List (List ℕ)) → AnswersQuestion question terms a → AnswersQuestion question terms b → a ≡ b
-    by_question Simplify terms e e' = e ∙ sym e'
-    by_question (Resolve same_change) terms (one, of_one, e) (other, of_other, e') = e ∙ ap outcome_line (outcome_once same_change terms one other of_one of_other) ∙ sym e'
+merge_answer_once (Simplify, terms) a b e e' = e ∙ sym e'
+merge_answer_once (Resolve same_change, terms) a b (one, of_one, e) (other, of_other, e') = e ∙ ap outcome_line (outcome_once same_change terms one other of_one of_other) ∙ sym e'
 
 merge_gives_one : (text : List ℕ) (first second : Result (List ℕ) Fault) → GivesMerge text first → GivesMerge text second → first ≡ second
 merge_gives_one text (Ok one) (Ok other) (requests, asked, answered) (requests', asked', answered') =

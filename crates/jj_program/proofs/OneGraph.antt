@@ -13,7 +13,7 @@ use Rattle.jj_dag.specs.CommonNodes.{AreClosestCommon}
 use Rattle.jj_dag.specs.Graph.{Graph, IsGreatestTopologicalOrder, AreMaximalElements}
 use Rattle.jj_dag.proofs.Walking.{has, Decides-has}
 use Rattle.jj_program.specs.declared.fault.Fault.{Fault}
-use Rattle.jj_program.specs.Requests.{AnswersEach}
+use Rattle.jj_program.specs.Lines.{AnswersEach}
 use Rattle.jj_program.specs.GraphCommand.{GraphRequest, Order, Heads, Common, numbers_line, AnswersRequest, IsGraphAnswer, GivesGraph, graph_of}
 use Rattle.jj_program.proofs.Requests.{AnswersEach-once}
 

@@ -1,7 +1,7 @@
 -- Outputs of lists of requests.
 use Rattle.std.proofs.Common.{◌≡◌, ◌∙◌, ℕ, ◌+◌, ◌<◌, List, [], ◌∷◌, ◌++◌, length, get_or, map, take, refl, ap, subst, sym, append_assoc}
 use Rattle.std.proofs.lemmas.List.{append-nil, map-append, take_more}
-use Rattle.jj_program.specs.Requests.{AnswersEach}
+use Rattle.jj_program.specs.Lines.{AnswersEach}
 
 module _ {Q : Type 0} (IsAnswer : Q → List ℕ → Type 0) where
   -- one more request and its line

@@ -9,13 +9,10 @@ use Rattle.jj_program.specs.declared.file_set.Combination.TheVariants.{Union, Di
 use Rattle.jj_program.specs.declared.file_set.SetLine.{SetLine}
 use Rattle.jj_program.specs.declared.file_set.SetOp.{SetOp}
 use Rattle.jj_program.specs.declared.file_set.SetOp.TheVariants.{Test, ShortCircuit, Combine}
-use Rattle.jj_program.specs.declared.file_set.code.Pass.{Pass}
 use Rattle.jj_program.specs.declared.file_set.matcher.FileSet.{FileSet}
 use Rattle.jj_paths.specs.Paths.{Path}
-use Rattle.jj_program.specs.SetTrees.{SetTree, one, both, combined_stack, stack_of}
-use Rattle.jj_program.specs.SetCode.{after_op, code_along, is_decided_by, pass_at, pass_over}
-use Rattle.jj_program.specs.SetViews.{is_whole, op_of, ops_of}
-use Rattle.jj_program.specs.Walked.{accepts_at, spec_of}
+use Rattle.jj_program.specs.WalkCommand.{SetTree, one, both, combined_stack, spec_of}
+use Rattle.jj_program.specs.SetCode.{stack_of, after_op, code_along, is_decided_by, pass_over, is_whole, op_of, ops_of, sets_of}
 
 -- 1. Operations and code of a set.
 
@@ -94,7 +91,7 @@ module _ {A : Type 0} where
       omega (arith, h, short)
 
 -- there are no more sets than operations
-pub sets_short : (ops : List (SetOp SetLine)) → length (stack_of (ops_of ops)) ≤ length ops
+pub sets_short : (ops : List (SetOp SetLine)) → length (sets_of ops) ≤ length ops
 sets_short ops =
     let short = stack_short (ops_of ops) in
     let all : length (ops_of ops) ≡ length ops = length-map (reverse ops) op_of ∙ length-reverse ops in
@@ -120,65 +117,64 @@ code_along-map (k ∷ pending) (Test set ∷ earlier) = ap (λ l. op_of (Test se
 
 -- 2. Evaluation.
 
-abbrev pub after : {A : Type 0} → (A → Bool) → SetOp A → Pass → Pass
-after test op pass = after_op test op pass.skipped pass.is_in
-
-module _ {A : Type 0} (test : A → Bool) where
-  pass_over-append : (xs ys : List (SetOp A)) (p : Pass) → pass_over test (xs ++ ys) p ≡ pass_over test xs (pass_over test ys p)
-  pass_over-append [] ys p = refl
-  pass_over-append (x ∷ xs) ys p = ap (after test x) (pass_over-append xs ys p)
-
-  -- a short-circuited operand does not change the state
-  kept : (set : SetTree A) (n : ℕ) (b : Bool) → pass_over test (code_of set) (pass_at (suc n) b) ≡ pass_at (suc n) b
-  kept (one x) n b = refl
-  kept (both k first second) n b =
-      ap (after test (Combine k))
-      (pass_over-append (code_of second) (ShortCircuit k ∷ code_of first) (pass_at (suc n) b)
-      ∙ ap (λ p. pass_over test (code_of second) (after test (ShortCircuit k) p)) (kept first n b)
-      ∙ kept second (suc n) b)
+abbrev pub after : Path → SetOp FileSet → ℕ × Bool → ℕ × Bool
+after path op pass = after_op path op pass.0 pass.1
 
 module _ (path : Path) where
+  pass_over-append : (xs ys : List (SetOp FileSet)) (p : ℕ × Bool) → pass_over path (xs ++ ys) p ≡ pass_over path xs (pass_over path ys p)
+  pass_over-append [] ys p = refl
+  pass_over-append (x ∷ xs) ys p = ap (after path x) (pass_over-append xs ys p)
+
+  -- a short-circuited operand does not change the state
+  kept : (set : SetTree FileSet) (n : ℕ) (b : Bool) → pass_over path (code_of set) (suc n, b) ≡ (suc n, b)
+  kept (one x) n b = refl
+  kept (both k first second) n b =
+      ap (after path (Combine k))
+      (pass_over-append (code_of second) (ShortCircuit k ∷ code_of first) (suc n, b)
+      ∙ ap (λ p. pass_over path (code_of second) (after path (ShortCircuit k) p)) (kept first n b)
+      ∙ kept second (suc n) b)
+
   -- the second operand is evaluated unless the first determines the result
   second_set : (k : Combination) (u : Bool) (first second : SetTree FileSet) → u ≡ (spec_of first).accepts path
-      → ((b : Bool) → pass_over (accepts_at path) (code_of second) (pass_at 0 b) ≡ pass_at 0 ((spec_of second).accepts path))
-      → after (accepts_at path) (Combine k) (pass_over (accepts_at path) (code_of second) (after (accepts_at path) (ShortCircuit k) (pass_at 0 u)))
-      ≡ pass_at 0 ((spec_of (both k first second)).accepts path)
-  second_set Union true first second is asked = rw (sym is) (ap (after (accepts_at path) (Combine Union)) (kept (accepts_at path) second 0 true))
-  second_set Union false first second is asked = rw (sym is) (ap (after (accepts_at path) (Combine Union)) (asked false))
-  second_set Difference true first second is asked = rw (sym is) (ap (after (accepts_at path) (Combine Difference)) (asked true))
-  second_set Difference false first second is asked = rw (sym is) (ap (after (accepts_at path) (Combine Difference)) (kept (accepts_at path) second 0 false))
-  second_set Intersection true first second is asked = rw (sym is) (ap (after (accepts_at path) (Combine Intersection)) (asked true))
-  second_set Intersection false first second is asked = rw (sym is) (ap (after (accepts_at path) (Combine Intersection)) (kept (accepts_at path) second 0 false))
+      → ((b : Bool) → pass_over path (code_of second) (0, b) ≡ (0, (spec_of second).accepts path))
+      → after path (Combine k) (pass_over path (code_of second) (after path (ShortCircuit k) (0, u)))
+      ≡ (0, (spec_of (both k first second)).accepts path)
+  second_set Union true first second is asked = rw (sym is) (ap (after path (Combine Union)) (kept second 0 true))
+  second_set Union false first second is asked = rw (sym is) (ap (after path (Combine Union)) (asked false))
+  second_set Difference true first second is asked = rw (sym is) (ap (after path (Combine Difference)) (asked true))
+  second_set Difference false first second is asked = rw (sym is) (ap (after path (Combine Difference)) (kept second 0 false))
+  second_set Intersection true first second is asked = rw (sym is) (ap (after path (Combine Intersection)) (asked true))
+  second_set Intersection false first second is asked = rw (sym is) (ap (after path (Combine Intersection)) (kept second 0 false))
 
-  pub told : (set : SetTree FileSet) (b : Bool) → pass_over (accepts_at path) (code_of set) (pass_at 0 b) ≡ pass_at 0 ((spec_of set).accepts path)
+  pub told : (set : SetTree FileSet) (b : Bool) → pass_over path (code_of set) (0, b) ≡ (0, (spec_of set).accepts path)
   told (one x) b = refl
   told (both k first second) b =
-      ap (after (accepts_at path) (Combine k))
-      (pass_over-append (accepts_at path) (code_of second) (ShortCircuit k ∷ code_of first) (pass_at 0 b)
-      ∙ ap (λ p. pass_over (accepts_at path) (code_of second) (after (accepts_at path) (ShortCircuit k) p)) (told first b))
+      ap (after path (Combine k))
+      (pass_over-append (code_of second) (ShortCircuit k ∷ code_of first) (0, b)
+      ∙ ap (λ p. pass_over path (code_of second) (after path (ShortCircuit k) p)) (told first b))
       ∙ second_set k ((spec_of first).accepts path) first second refl (told second)
 
--- one more operation
-pub pass_next : {A : Type 0} (test : A → Bool) (code : List (SetOp A)) (start p : Pass) (left : ℕ) (op : SetOp A) → left < length code → op ≡ get_or code left op →
-    p ≡ pass_over test (drop (suc left) code) start → after test op p ≡ pass_over test (drop left code) start
-pass_next test code start p left op within is so_far =
-    ap (after test op) so_far
-    ∙ ap (λ x. after test x (pass_over test (drop (suc left) code) start)) is
-    ∙ sym (ap (λ l. pass_over test l start) (drop-cons code left op within))
+  -- one more operation
+  pub pass_next : (code : List (SetOp FileSet)) (start p : ℕ × Bool) (left : ℕ) (op : SetOp FileSet) → left < length code → op ≡ get_or code left op →
+      p ≡ pass_over path (drop (suc left) code) start → after path op p ≡ pass_over path (drop left code) start
+  pass_next code start p left op within is so_far =
+      ap (after path op) so_far
+      ∙ ap (λ x. after path x (pass_over path (drop (suc left) code) start)) is
+      ∙ sym (ap (λ l. pass_over path l start) (drop-cons code left op within))
 
--- an operation short-circuits at most one combination
-pub after-few : {A : Type 0} (test : A → Bool) (op : SetOp A) (n : ℕ) (b : Bool) → (after_op test op n b).skipped ≤ n + 1
-after-few test (Test set) zero b = omega arith
-after-few test (Test set) (suc n) b = omega arith
-after-few test (ShortCircuit k) zero b = few (is_decided_by k b)
-  where
-    few : (d : Bool) → cond d 1 0 ≤ 0 + 1
-    few true = omega arith
-    few false = omega arith
-after-few test (ShortCircuit k) (suc n) b = omega arith
-after-few test (Combine k) zero b = omega arith
-after-few test (Combine k) (suc n) b = omega arith
+  -- an operation short-circuits at most one combination
+  pub after-few : (op : SetOp FileSet) (n : ℕ) (b : Bool) → (after_op path op n b).0 ≤ n + 1
+  after-few (Test set) zero b = omega arith
+  after-few (Test set) (suc n) b = omega arith
+  after-few (ShortCircuit k) zero b = few (is_decided_by k b)
+    where
+      few : (d : Bool) → cond d 1 0 ≤ 0 + 1
+      few true = omega arith
+      few false = omega arith
+  after-few (ShortCircuit k) (suc n) b = omega arith
+  after-few (Combine k) zero b = omega arith
+  after-few (Combine k) (suc n) b = omega arith
 
--- the code ends after the last operation
-pub pass_none : {A : Type 0} (test : A → Bool) (code : List (SetOp A)) (start : Pass) (n : ℕ) → length code ≤ n → start ≡ pass_over test (drop n code) start
-pass_none test code start n h = sym (ap (λ l. pass_over test l start) (drop_all n code h))
+  -- the code ends after the last operation
+  pub pass_none : (code : List (SetOp FileSet)) (start : ℕ × Bool) (n : ℕ) → length code ≤ n → start ≡ pass_over path (drop n code) start
+  pass_none code start n h = sym (ap (λ l. pass_over path l start) (drop_all n code h))

@@ -1,9 +1,9 @@
 -- Code with the matcher of each set accepts and visits what the set does.
-use Rattle.std.proofs.Common.{◌≡◌, ◌∙◌, Bool, true, false, List, [], ◌∷◌, ◌++◌, refl, ap, sym, subst, map, reverse, length, get_or, ◌||◌, ◌&&◌, not, if◌then◌else◌, true≢false}
+use Rattle.std.proofs.Common.{◌≡◌, ◌∙◌, ℕ, Bool, true, false, List, [], ◌∷◌, ◌++◌, refl, ap, sym, subst, map, reverse, length, get_or, ◌||◌, ◌&&◌, not, if◌then◌else◌, true≢false}
 use Rattle.std.specs.List.{AllZip, list_any}
 use Rattle.std.proofs.lemmas.List.{append_assoc, append-nil}
 use Rattle.std.proofs.lemmas.List.Folds.{list_any-append}
-use Rattle.jj_paths.specs.Paths.{Name}
+use Rattle.jj_paths.specs.Paths.{Name, Path}
 use Rattle.jj_matchers.specs.VisitSpecs.{VisitSpec, all_recursively, specific, nothing}
 use Rattle.jj_matchers.specs.Combined.{union_spec, difference_spec, intersection_spec}
 use Rattle.jj_program.specs.declared.file_set.Combination.{Combination}
@@ -13,11 +13,8 @@ use Rattle.jj_program.specs.declared.file_set.SetOp.{SetOp}
 use Rattle.jj_program.specs.declared.file_set.SetOp.TheVariants.{Test, ShortCircuit, Combine}
 use Rattle.jj_program.specs.declared.file_set.matcher.FileSet.{FileSet}
 use Rattle.jj_program.specs.declared.file_set.matcher.FileSet.TheVariants.{Nothing}
-use Rattle.jj_program.specs.SetTrees.{SetTree, one, both, stack_of}
-use Rattle.jj_program.specs.SetCode.{code_along, pass_at, pass_over}
-use Rattle.jj_program.specs.SetViews.{is_whole, op_of, ops_of}
-use Rattle.jj_program.specs.Matching.{IsAlike, IsAlikeOp, IsTold, made_by}
-use Rattle.jj_program.specs.Walked.{MatcherSpec, accepts_at, combined_spec, spec_of}
+use Rattle.jj_program.specs.WalkCommand.{SetTree, one, both, MatcherSpec, combined_spec, spec_of}
+use Rattle.jj_program.specs.SetCode.{code_along, pass_over, is_whole, op_of, ops_of, IsAlike, IsAlikeOp, made_by, sets_of}
 use Rattle.jj_program.proofs.SetCode.{code_along-map, code_of, code_of_ops, only_item, ops_from, ops_to_all, stack_of_code, told}
 
 -- the visit of an intersection depends on the set of names, not on their order
@@ -121,13 +118,13 @@ none_left (op ∷ left) h = absurd h
 
 -- the matcher of the only set of a stack
 pub record NewMatcher (sets : List (SetTree FileSet)) (code : List (SetOp FileSet)) : Type 0 where
-  pub told_by : IsTold code
+  pub decided : (path : Path) → (pass_over path code (0, false)).1 ≡ (spec_of (made_by code)).accepts path
   pub alike : (set : SetTree FileSet) → sets ≡ set ∷ [] → IsAlike (spec_of (made_by code)) (spec_of set)
 
-pub new_matcher : (ops code : List (SetOp SetLine)) (own : List (SetOp FileSet)) → length (stack_of (ops_of ops)) ≡ 1 → is_whole (ops_of ops) ≡ true →
-    code ≡ code_along [] (reverse ops) → AllZip IsAlikeOp own (map op_of code) → NewMatcher (stack_of (ops_of ops)) own
+pub new_matcher : (ops code : List (SetOp SetLine)) (own : List (SetOp FileSet)) → length (sets_of ops) ≡ 1 → is_whole (ops_of ops) ≡ true →
+    code ≡ code_along [] (reverse ops) → AllZip IsAlikeOp own (map op_of code) → NewMatcher (sets_of ops) own
 new_matcher ops code own alone whole along h =
-    let item = only_item (stack_of (ops_of ops)) alone in
+    let item = only_item (sets_of ops) alone in
     let set = item.0 in
     let back : ops_of ops ≡ ops_to_all (set ∷ []) = ops_from (ops_of ops) whole ∙ ap ops_to_all item.1 in
     let same : map op_of code ≡ code_of set ++ [] = ap (map op_of) along ∙ code_along-map [] (reverse ops) ∙ ap (code_along []) back ∙ code_of_ops set ∙ sym (append-nil (code_of set)) in
@@ -135,7 +132,7 @@ new_matcher ops code own alone whole along h =
     let made : own ≡ code_of built.own = built.split ∙ ap (λ l. code_of built.own ++ l) (none_left built.left built.others) ∙ append-nil (code_of built.own) in
     let is : made_by own ≡ built.own = ap made_by made ∙ ap (λ l. get_or l 0 (one Nothing)) (stack_of_code built.own) in
     record {
-      told_by = λ path. ap (λ l. (pass_over (accepts_at path) l (pass_at 0 false)).is_in) made ∙ ap (λ p. p.is_in) (told path built.own false) ∙ ap (λ s. (spec_of s).accepts path) (sym is);
+      decided = λ path. ap (λ l. (pass_over path l (0, false)).1) made ∙ ap (λ (p : ℕ × Bool). p.1) (told path built.own false) ∙ ap (λ s. (spec_of s).accepts path) (sym is);
       alike = λ other only.
           let one_set : set ≡ other = ap (λ l. get_or l 0 set) (sym item.1 ∙ only) in
           subst (λ s. IsAlike (spec_of (made_by own)) (spec_of s)) one_set (subst (λ s. IsAlike (spec_of s) (spec_of set)) (sym is) built.alike);

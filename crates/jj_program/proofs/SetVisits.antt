@@ -17,9 +17,8 @@ use Rattle.jj_program.specs.declared.file_set.SetOp.{SetOp}
 use Rattle.jj_program.specs.declared.file_set.SetOp.TheVariants.{Combine}
 use Rattle.jj_program.specs.declared.file_set.matcher.FileSet.{FileSet}
 use Rattle.jj_program.specs.declared.file_set.matcher.FileSet.TheVariants.{Everything, Nothing as Nothing', Files, Prefix, Globs}
-use Rattle.jj_program.specs.Matching.{made_by, visits_at}
-use Rattle.jj_program.specs.SetTrees.{SetTree, one, both, combined_stack, stack_of}
-use Rattle.jj_program.specs.Walked.{MatcherSpec, combined_spec, leaf_spec, spec_of}
+use Rattle.jj_program.specs.SetCode.{made_by, visits_at, stack_of}
+use Rattle.jj_program.specs.WalkCommand.{SetTree, one, both, combined_stack, MatcherSpec, combined_spec, leaf_spec, spec_of}
 use Rattle.jj_program.proofs.SetCode.{reverse_more}
 
 -- the visit of a directory is sound, and lists only the names

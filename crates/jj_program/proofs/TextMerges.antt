@@ -15,11 +15,10 @@ use Rattle.jj_merges.specs.Simplify.{equal_at, cancel_from, split_indices, simpl
 use Rattle.jj_merges.proofs.Cancellation.{equal_options, simplified_sides}
 use Rattle.jj_program.specs.declared.merge_command.Question.{Question}
 use Rattle.jj_program.specs.declared.merge_command.Question.TheVariants.{Simplify, Resolve}
-use Rattle.jj_program.specs.Lines.{line_text}
+use Rattle.jj_program.specs.Lines.{line_text, Text, texts_of}
 use Rattle.jj_program.proofs.DecidedTerms.{decided_stands}
-use Rattle.jj_program.specs.MergeCommand.{AnswersQuestion, outcome_line}
-use Rattle.jj_program.specs.Texts.{Text, texts_of}
-use Rattle.jj_program.specs.TextMerges.{text_eq, IsTextOutcome}
+use Rattle.jj_program.specs.MergeCommand.{outcome_line, IsMergeAnswer}
+use Rattle.jj_program.specs.MergeViews.{text_eq, IsTextOutcome}
 
 -- a borrowed string with these bytes
 abbrev text_of : List ℕ → Text
@@ -117,17 +116,17 @@ member_bytes same_change m v decided =
 
 -- the simplified merge is the result of `simplify`
 pub answers_simplify : (question : Question) (m left : List Text) → question ≡ Simplify → AllZip (λ x y. y ≡ x) (at_indices m (simplified_indices text_eq m)) left
-    → AnswersQuestion question (texts_of m) (line_text (codes "terms") (texts_of left))
+    → IsMergeAnswer (question, texts_of m) (line_text (codes "terms") (texts_of left))
 answers_simplify question m left asked kept =
-    subst (λ q. AnswersQuestion q (texts_of m) (line_text (codes "terms") (texts_of left))) (sym asked) (ap (line_text (codes "terms")) (left_bytes m left kept))
+    subst (λ q. IsMergeAnswer (q, texts_of m) (line_text (codes "terms") (texts_of left))) (sym asked) (ap (line_text (codes "terms")) (left_bytes m left kept))
 
 -- the resolved string, if any, is the result of `keep` and `accept`
 pub answers_outcome : (question : Question) (same_change : SameChange) (m : List Text)
     (o : Option Text) → question ≡ Resolve same_change → IsTextOutcome same_change m o
-    → AnswersQuestion question (texts_of m) (outcome_line (option_map (λ text. text.now) o))
+    → IsMergeAnswer (question, texts_of m) (outcome_line (option_map (λ text. text.now) o))
 answers_outcome question same_change m (Some v) asked decided =
-    subst (λ q. AnswersQuestion q (texts_of m) (outcome_line (Some v.now))) (sym asked)
+    subst (λ q. IsMergeAnswer (q, texts_of m) (outcome_line (Some v.now))) (sym asked)
     (Some v.now, (member_bytes same_change m v decided, decided_bytes same_change m v decided), refl)
 answers_outcome question same_change m None asked none =
-    subst (λ q. AnswersQuestion q (texts_of m) (outcome_line None)) (sym asked)
+    subst (λ q. IsMergeAnswer (q, texts_of m) (outcome_line None)) (sym asked)
     (None, none_decided same_change m none, refl)

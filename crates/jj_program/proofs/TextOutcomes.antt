@@ -5,8 +5,8 @@ use Rattle.jj_merges.specs.declared.merge.SameChange.{SameChange}
 use Rattle.jj_merges.specs.declared.merge.SameChange.TheVariants.{Keep, Accept}
 use Rattle.jj_merges.specs.Merge.{adds, removes, HaveSameCounts}
 use Rattle.jj_merges.specs.Resolution.{ResolvesTo}
-use Rattle.jj_program.specs.Texts.{Text}
-use Rattle.jj_program.specs.TextMerges.{text_eq, IsTextOutcome}
+use Rattle.jj_program.specs.Lines.{Text}
+use Rattle.jj_program.specs.MergeViews.{text_eq, IsTextOutcome}
 
 module _ {T : Type 0} (eq : T → T → Bool) where
   pub decided_by_counts : (same_change : SameChange) (m n : List T) (v : T) → HaveSameCounts eq m n

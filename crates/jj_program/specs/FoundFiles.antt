@@ -7,9 +7,7 @@ use Rattle.jj_matchers.specs.Patterns.{IsAccepted}
 use Rattle.jj_program.specs.declared.file_set.Combination.TheVariants.{Union, Difference, Intersection}
 use Rattle.jj_program.specs.declared.file_set.matcher.FileSet.{FileSet}
 use Rattle.jj_program.specs.declared.file_set.matcher.FileSet.TheVariants.{Everything, Nothing, Files, Prefix, Globs}
-use Rattle.jj_program.specs.SetTrees.{SetTree, one, both}
-use Rattle.jj_program.specs.Walked.{GivesWalk, path_lines}
-use Rattle.jj_program.specs.WalkCommand.{WalkRequest, walk_request}
+use Rattle.jj_program.specs.WalkCommand.{SetTree, one, both, GivesWalk, path_lines, WalkRequest, walk_request}
 
 -- the path is in a leaf: all paths, none, those of a list, those at or below one of a list, or
 -- those whose suffix below a pattern's directory its glob matches

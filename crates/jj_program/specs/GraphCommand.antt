@@ -1,7 +1,7 @@
 -- The command `graph`: adjacency lists, and requests for the topological order, the heads or the
 -- closest common nodes of some ids.
 -- Cited by contracts of public items through LineFaults, Program.
-use Rattle.std.specs.Prelude.{◌≡◌, ◌⊎◌, ℕ, ◌==◌, List, [], ◌∷◌, ◌++◌, cond, codes, map, Option, Some, None, is_some, unwrap_or, Result, Ok, Err}
+use Rattle.std.specs.Prelude.{◌≡◌, ◌⊎◌, ℕ, ◌==◌, List, [], ◌∷◌, ◌++◌, cond, codes, map, Option, Some, None, is_some, unwrap_or, Result, Ok, Err, ◌^◌, Bool, ◌&&◌, nat_lt}
 use Rattle.std.specs.Str.Parse.{digits_value}
 use Rattle.std.specs.Fmt.{decimal}
 use Rattle.std.specs.List.Sorted.{IsStrictlyIncreasing}
@@ -13,10 +13,9 @@ use Rattle.jj_program.specs.declared.fault.LineFault.TheVariants.{BadNumber, Rep
 use Rattle.jj_program.specs.declared.graph_command.GraphForm.{GraphForm}
 use Rattle.jj_program.specs.declared.graph_command.GraphForm.TheVariants.{Node, Order as Order', Heads as Heads', Common as Common'}
 use Rattle.jj_program.specs.declared.graph_command.TheConstants.{GRAPH_FORMS}
-use Rattle.jj_program.specs.Numbers.{is_number}
 use Rattle.jj_program.specs.Forms.{Kind, line_of, table}
-use Rattle.jj_program.specs.Lines.{line_text, lines_of, after_lines, result_and_then}
-use Rattle.jj_program.specs.Requests.{AnswersEach}
+use Rattle.jj_program.specs.Lines.{AnswersEach, line_text, lines_of, after_lines, result_and_then}
+use Rattle.std.specs.Str.{bytes_eq}
 
 -- a request
 pub data GraphRequest : Type 0 where
@@ -24,38 +23,27 @@ pub data GraphRequest : Type 0 where
   Heads : List ℕ → GraphRequest
   Common : List ℕ → List ℕ → GraphRequest
 
--- the ids of a request
-abbrev pub ids_of : GraphRequest → List ℕ
-ids_of (Order ids) = ids
-ids_of (Heads ids) = ids
-ids_of (Common set1 set2) = set1 ++ set2
-
 -- the adjacency lists so far by id, and the requests
 pub record GraphState : Type 0 where
   pub listed : ℕ → Option (List ℕ)
   pub requests : List GraphRequest
 
--- the initial state
-abbrev pub graph_start : GraphState
-graph_start = record { listed = λ id. None; requests = [] }
+-- the string is the canonical decimal form of a number below 2^64
+abbrev pub is_number : List ℕ → Bool
+is_number text = nat_lt (digits_value 10 text) (2 ^ 64)
+    && bytes_eq (decimal (digits_value 10 text)) text
 
 -- ids
 abbrev pub number_kind : Kind ℕ
 number_kind = record { is_one = is_number; value_of = digits_value 10; otherwise = BadNumber }
 
--- adds an adjacency list
-abbrev pub listed_more : GraphState → ℕ → List ℕ → GraphState
-listed_more state id neighbors = record {
-  listed = λ other.
-      cond (id == other) (Some neighbors) (state.listed other);
-  requests = state.requests;
-}
-
 -- adds the adjacency list of the first id, unless the node has one
 abbrev pub with_node : GraphState → List ℕ → Result GraphState LineFault
 with_node state [] = Ok state
-with_node state (id ∷ neighbors) = cond (is_some (state.listed id)) (Err RepeatedNode)
-    (Ok (listed_more state id neighbors))
+with_node state (id ∷ neighbors) = cond (is_some (state.listed id)) (Err RepeatedNode) (Ok (record {
+  listed = λ other. cond (id == other) (Some neighbors) (state.listed other);
+  requests = state.requests;
+}))
 
 -- appends a request
 abbrev pub with_request : GraphState → GraphRequest → Result GraphState LineFault
@@ -81,7 +69,8 @@ graph_step state fields =
 
 -- the state after a whole input, or its first fault
 abbrev pub graph_state : List ℕ → Result GraphState Fault
-graph_state text = after_lines graph_step 1 graph_start (lines_of text)
+graph_state text =
+    after_lines graph_step 1 (record { listed = λ id. None; requests = [] }) (lines_of text)
 
 -- the graph of the adjacency lists; a node without one has no neighbours
 abbrev pub graph_of : (ℕ → Option (List ℕ)) → Graph

@@ -1,17 +1,37 @@
--- The model of the state of `graph`.
+-- The models of adjacency lists and of the state of `graph`.
 -- Machinery of private functions and fields.
-use Rattle.std.specs.Prelude.{map}
+use Rattle.std.specs.Prelude.{ℕ, ◌++◌, List, Option, unwrap_or, map}
+use Rattle.std.specs.Option.{option_map}
+use Rattle.std.specs.List.{slice_range}
+use Rattle.jj_program.specs.declared.edges.Edges.{Edges}
+use Rattle.jj_program.specs.Parts.{part_in}
 use Rattle.jj_program.specs.declared.graph_command.GraphRequest.{GraphRequest as GraphRequestValue}
 use Rattle.jj_program.specs.declared.graph_command.GraphRequest.TheVariants.{Order as Order', Heads as Heads', Common as Common'}
 use Rattle.jj_program.specs.declared.graph_command.GraphReading.{GraphReading}
-use Rattle.jj_program.specs.Edges.{listed_by}
 use Rattle.jj_program.specs.GraphCommand.{GraphRequest, Order, Heads, Common, GraphState}
 
+-- the adjacency list of an id
+abbrev pub listed_by : Edges → ℕ → Option (List ℕ)
+listed_by edges id = option_map (λ part. slice_range edges.targets.items part.0 part.1)
+    (part_in edges.ascending.items edges.others id)
+
+-- where it starts and ends among the targets; an empty part for an id without a list
+abbrev pub part_at : Edges → ℕ → ℕ × ℕ
+part_at edges id = unwrap_or (part_in edges.ascending.items edges.others id) (0, 0)
+
+-- a request
 abbrev pub graph_request_of : GraphRequestValue → GraphRequest
 graph_request_of (Order' ids) = Order ids.items
 graph_request_of (Heads' ids) = Heads ids.items
 graph_request_of (Common' set1 set2) = Common set1.items set2.items
 
+-- the ids of a request
+abbrev pub ids_of : GraphRequest → List ℕ
+ids_of (Order ids) = ids
+ids_of (Heads ids) = ids
+ids_of (Common set1 set2) = set1 ++ set2
+
+-- the state after the lines so far
 abbrev pub graph_state_of : GraphReading → GraphState
 graph_state_of reading = record {
   listed = listed_by reading.edges;

@@ -1,7 +1,7 @@
 -- The command `hash`: the digest of each line's bytes, which are given in hex or are the content of
 -- strings.
 -- Cited by contracts of public items through LineFaults, Program.
-use Rattle.std.specs.Prelude.{◌≡◌, ℕ, ◌+◌, ◌*◌, List, [], ◌∷◌, ◌++◌, flat_map, Option, None, Some, ok_or, option_map, Result, Ok}
+use Rattle.std.specs.Prelude.{◌≡◌, ℕ, ◌+◌, ◌*◌, List, [], ◌∷◌, ◌++◌, flat_map, Option, None, Some, ok_or, option_and_then, option_map, Result, Ok, length}
 use Rattle.std.specs.List.{concat}
 use Rattle.jj_content.specs.Blake2b.{blake2b}
 use Rattle.jj_content.specs.Content.{string_content, list_content}
@@ -14,20 +14,15 @@ use Rattle.jj_program.specs.declared.hash_command.HashInput.TheVariants.{Raw, Te
 use Rattle.jj_program.specs.declared.hash_command.TheConstants.{HASH_FORMS}
 use Rattle.jj_program.specs.Forms.{form_line, table}
 use Rattle.jj_program.specs.Lines.{lines_of, after_lines, result_and_then}
-
--- prepends a byte of two hex digits
-abbrev pub with_byte : Option ℕ → Option ℕ → Option (List ℕ) → Option (List ℕ)
-with_byte (Some high) (Some low) (Some bytes) = Some ((high * 16 + low) ∷ bytes)
-with_byte (Some high) (Some low) None = None
-with_byte (Some high) None bytes = None
-with_byte None low bytes = None
+use Rattle.jj_merges.specs.Merge.{IsOdd}
 
 -- decodes hex of either case
 abbrev pub bytes_of_hex : List ℕ → Option (List ℕ)
 bytes_of_hex [] = Some []
 bytes_of_hex (alone ∷ []) = None
 bytes_of_hex (high ∷ low ∷ text) =
-    with_byte (digit_value hex_digits high) (digit_value hex_digits low) (bytes_of_hex text)
+    option_and_then (λ h. option_and_then (λ l. option_map (λ bytes. (h * 16 + l) ∷ bytes)
+    (bytes_of_hex text)) (digit_value hex_digits low)) (digit_value hex_digits high)
 
 -- the digest of what a line with these fields describes: the bytes of a hex string, or the content
 -- of a string, of a list of strings or of a merge of strings
@@ -54,5 +49,9 @@ hash_step output fields = result_and_then (hash_line fields)
 abbrev pub hash_output : List ℕ → Result (List ℕ) Fault
 hash_output text = after_lines hash_step 1 [] (lines_of text)
 
-abbrev pub GivesHash : List ℕ → Result (List ℕ) Fault → Type 0
-GivesHash text answer = hash_output text ≡ answer
+-- a line of an input has this number of fields
+abbrev pub HasSize : HashInput → List (List ℕ) → Type 0
+HasSize Raw fields = length fields ≡ 1
+HasSize Text fields = length fields ≡ 1
+HasSize List' fields = Unit {0}
+HasSize Merge fields = IsOdd (length fields)

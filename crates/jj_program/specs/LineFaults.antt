@@ -25,10 +25,9 @@ use Rattle.jj_program.specs.declared.walk_command.TheConstants.{WALK_FORMS}
 use Rattle.jj_program.specs.declared.walk_command.WalkForm.{WalkForm}
 use Rattle.jj_program.specs.declared.walk_command.WalkForm.TheVariants.{Push, Combine}
 use Rattle.jj_program.specs.Forms.{admits, first_fields, form_named, second_fields, table}
-use Rattle.jj_program.specs.GraphCommand.{graph_line}
+use Rattle.jj_program.specs.GraphCommand.{graph_line, is_number}
 use Rattle.jj_program.specs.HashCommand.{bytes_of_hex}
 use Rattle.jj_program.specs.Lines.{lines_of, fields_of}
-use Rattle.jj_program.specs.Numbers.{is_number}
 use Rattle.jj_program.specs.Program.{GivesText}
 use Rattle.jj_program.specs.WalkCommand.{is_glob_text, walk_line}
 

@@ -1,12 +1,18 @@
--- Input as numbered lines of TAB-separated fields, folded by the transition of a command.
--- Cited by contracts of public items through FirstFaults, GraphCommand, HashCommand, LineFaults,
--- MergeCommand, WalkCommand, Walked.
-use Rattle.std.specs.Prelude.{ℕ, ◌≡◌, ◌==◌, ◌+◌, List, [], ◌∷◌, ◌++◌, flat_map, Result, Ok, Err}
+-- Input as numbered lines of TAB-separated fields, folded by the transition of a command, and
+-- output as lines.
+-- Cited by contracts of public items through FoundFiles, GraphCommand, HashCommand, Laws,
+-- LineFaults, MergeCommand, WalkCommand.
+use Rattle.std.specs.Prelude.{ℕ, ◌≡◌, ◌==◌, ◌+◌, List, [], ◌∷◌, ◌++◌, flat_map, Result, Ok, Err, map, MatchResult}
 use Rattle.std.specs.List.{slice_split}
 use Rattle.std.specs.Result.{result_map_both}
 use Rattle.jj_program.specs.declared.fault.LineFault.{LineFault}
 use Rattle.jj_program.specs.declared.fault.Fault.{Fault}
 use Rattle.jj_program.specs.declared.fault.Fault.TheVariants.{ReadInput, Memory, WriteOutput, Line}
+use Rattle.std.specs.Borrow.{Bor}
+use Rattle.jj_program.specs.declared.fault.StepFault.{StepFault}
+use Rattle.jj_program.specs.declared.fault.StepFault.TheVariants.{Memory as Memory', Line as Line'}
+
+-- 1. Input.
 
 -- the lines of an input, separated by LF; the part after the last LF is a line too, maybe an empty
 -- one
@@ -16,10 +22,6 @@ lines_of input = slice_split (λ b. b == 10) input
 -- the fields of a line, separated by TAB
 abbrev pub fields_of : List ℕ → List (List ℕ)
 fields_of line = slice_split (λ b. b == 9) line
-
--- an output line
-abbrev pub line_text : List ℕ → List (List ℕ) → List ℕ
-line_text name fields = name ++ flat_map (λ field. 9 ∷ field) fields ++ 10 ∷ []
 
 -- the state after a line, or its fault with its number: an empty line is skipped
 abbrev pub after_line : {S : Type 0} → (S → List (List ℕ) → Result S LineFault) → ℕ → S → List ℕ
@@ -41,9 +43,40 @@ after_lines step number state (line ∷ lines) =
     result_and_then (after_line step number state line)
     (λ next. after_lines step (number + 1) next lines)
 
+-- 2. Output.
+
+-- an output line
+abbrev pub line_text : List ℕ → List (List ℕ) → List ℕ
+line_text name fields = name ++ flat_map (λ field. 9 ∷ field) fields ++ 10 ∷ []
+
+-- the output is one result per request, in order
+abbrev pub AnswersEach : {Q : Type 0} → (Q → List ℕ → Type 0) → List Q → List ℕ → Type 0
+AnswersEach IsAnswer [] output = output ≡ []
+AnswersEach IsAnswer (request ∷ requests) output = (answer rest : List ℕ) × IsAnswer request answer
+    × AnswersEach IsAnswer requests rest × (output ≡ answer ++ rest)
+
+-- 3. Results and values of private functions.
+
+-- a borrowed string, as a field of a line
+abbrev pub Text : Type 0
+Text = Bor (List ℕ)
+
+-- the strings' bytes
+abbrev pub texts_of : List Text → List (List ℕ)
+texts_of texts = map (λ text. text.now) texts
+
 -- the fault is the expected one, or out of memory
 abbrev pub IsFaultOf : {A : Type 0} → Fault → Result A Fault → Type 0
 IsFaultOf Memory expected = Unit {0}
 IsFaultOf ReadInput expected = ⊥
 IsFaultOf WriteOutput expected = ⊥
 IsFaultOf fault expected = expected ≡ Err fault
+
+abbrev pub IsStepFaultOf : {A : Type 0} → StepFault → Result A LineFault → Type 0
+IsStepFaultOf Memory' expected = Unit {0}
+IsStepFaultOf (Line' kind) expected = expected ≡ Err kind
+
+-- the result, mapped to its model by `view`, is the expected one, or out of memory
+abbrev pub Agrees : {V A : Type 0} → Result V StepFault → (V → A) → Result A LineFault → Type 0
+Agrees result view expected = MatchResult result (λ value. expected ≡ Ok (view value))
+    (λ fault. IsStepFaultOf fault expected)

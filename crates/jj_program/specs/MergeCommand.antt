@@ -11,18 +11,16 @@ use Rattle.jj_program.specs.declared.merge_command.Question.{Question}
 use Rattle.jj_program.specs.declared.merge_command.Question.TheVariants.{Simplify, Resolve}
 use Rattle.jj_program.specs.declared.merge_command.TheConstants.{MERGE_FORMS}
 use Rattle.jj_program.specs.Forms.{form_line, table}
-use Rattle.jj_program.specs.Lines.{line_text, lines_of, after_lines, result_and_then}
-use Rattle.jj_program.specs.Requests.{AnswersEach}
+use Rattle.jj_program.specs.Lines.{AnswersEach, line_text, lines_of, after_lines, result_and_then}
 
--- a requested operation and its merge, adds at even indices and removes at odd ones
-pub record MergeRequest : Type 0 where
-  pub question : Question
-  pub terms : List (List ℕ)
+-- a requested operation and the terms of its merge, adds at even indices and removes at odd ones
+abbrev pub MergeRequest : Type 0
+MergeRequest = Question × List (List ℕ)
 
 -- appends the request of a line
 abbrev pub merge_step : List MergeRequest → List (List ℕ) → Result (List MergeRequest) LineFault
 merge_step requests fields = result_and_then (form_line (table MERGE_FORMS) fields)
-    (λ line. Ok (requests ++ record { question = line.0; terms = line.2 } ∷ []))
+    (λ line. Ok (requests ++ (line.0, line.2) ∷ []))
 
 -- the requests of an input, or its first fault
 abbrev pub merge_requests : List ℕ → Result (List MergeRequest) Fault
@@ -39,15 +37,12 @@ abbrev pub outcome_line : Option (List ℕ) → List ℕ
 outcome_line (Some term) = line_text (codes "resolved") (term ∷ [])
 outcome_line None = line_text (codes "conflict") []
 
--- the line of an operation on these terms
-abbrev pub AnswersQuestion : Question → List (List ℕ) → List ℕ → Type 0
-AnswersQuestion Simplify terms answer = answer
-    ≡ line_text (codes "terms") (at_indices terms (simplified_indices bytes_eq terms))
-AnswersQuestion (Resolve same_change) terms answer = (outcome : Option (List ℕ))
-    × IsOutcome same_change terms outcome × (answer ≡ outcome_line outcome)
-
+-- the line of a request
 abbrev pub IsMergeAnswer : MergeRequest → List ℕ → Type 0
-IsMergeAnswer request answer = AnswersQuestion request.question request.terms answer
+IsMergeAnswer (Simplify, terms) answer = answer
+    ≡ line_text (codes "terms") (at_indices terms (simplified_indices bytes_eq terms))
+IsMergeAnswer (Resolve same_change, terms) answer = (outcome : Option (List ℕ))
+    × IsOutcome same_change terms outcome × (answer ≡ outcome_line outcome)
 
 -- the output has one line per request; or the input has this fault
 abbrev pub GivesMerge : List ℕ → Result (List ℕ) Fault → Type 0

@@ -1,11 +1,13 @@
--- Nodes with parts of one array: a list of some in ascending order, and a map of the others.
+-- Adjacency lists as parts of one array, and dense numbers of ids.
 -- Machinery of private functions and fields.
-use Rattle.std.specs.Prelude.{◌≡◌, ◌==◌, ◌<◌, ◌≤◌, ℕ, List, Option, Some, All}
+use Rattle.std.specs.Prelude.{◌≡◌, ◌==◌, ◌<◌, ◌≤◌, ℕ, List, Option, Some, All, true, ◌+◌, suc, cond, length, get_or, nat_lt}
 use Rattle.std.specs.BTreeMap.{BTreeMap, get}
-use Rattle.std.specs.List.{AllPairs}
+use Rattle.std.specs.List.{AllPairs, Contains, list_any, sum_by}
 use Rattle.std.specs.Map.{lookup}
 use Rattle.std.specs.Option.{option_or}
 use Rattle.std.specs.Ordering.{nat_cmp}
+
+-- 1. Parts, by a list of some nodes in ascending order and a map of the others.
 
 -- a node, and where its part starts and ends
 abbrev pub Entry : Type 0
@@ -35,3 +37,18 @@ part_in entries others id = option_or (lookup (λ other. other == id) entries)
 abbrev pub AreParts : (ℕ → Option (ℕ × ℕ)) → ℕ → Type 0
 AreParts part_of n = (id : ℕ) (part : ℕ × ℕ) → part_of id ≡ Some part
     → (part.0 ≤ part.1) × (part.1 ≤ n)
+
+-- 2. Numbers.
+
+-- each of the first ids is one of the second
+abbrev pub HoldsEach : List ℕ → List ℕ → Type 0
+HoldsEach some ids = (b : ℕ) → Contains some b → list_any (λ id. b == id) ids ≡ true
+
+-- the number of an id in a sorted list
+abbrev pub IsNumberOf : List ℕ → ℕ → ℕ → Type 0
+IsNumberOf ids id number = (number < length ids) × (get_or ids number 0 ≡ id)
+
+-- the id of a number; out of range, an id that is above all in the list
+abbrev pub id_of : List ℕ → ℕ → ℕ
+id_of ids number = cond (nat_lt number (length ids)) (get_or ids number 0)
+    (suc (sum_by (λ id. id) ids + number))

@@ -10,10 +10,10 @@ use Rattle.jj_program.specs.declared.fault.Fault.{Fault}
 use Rattle.jj_program.specs.declared.fault.Fault.TheVariants.{ReadInput, NotUtf8, Memory, WriteOutput}
 use Rattle.jj_program.specs.declared.program.Command.{Command}
 use Rattle.jj_program.specs.declared.program.Command.TheVariants.{Walk, Merge, Graph, Hash}
-use Rattle.jj_program.specs.Walked.{GivesWalk}
+use Rattle.jj_program.specs.WalkCommand.{GivesWalk}
 use Rattle.jj_program.specs.MergeCommand.{GivesMerge}
 use Rattle.jj_program.specs.GraphCommand.{GivesGraph}
-use Rattle.jj_program.specs.HashCommand.{GivesHash}
+use Rattle.jj_program.specs.HashCommand.{hash_output}
 
 -- the command with this name
 abbrev pub command_named : List ℕ → Option Command
@@ -35,7 +35,7 @@ abbrev pub GivesText : Command → List ℕ → Result (List ℕ) Fault → Type
 GivesText Walk text = GivesWalk text
 GivesText Merge text = GivesMerge text
 GivesText Graph text = GivesGraph text
-GivesText Hash text = GivesHash text
+GivesText Hash text = λ answer. hash_output text ≡ answer
 
 -- the result of a command on any input: input that is not UTF-8 is a fault
 abbrev pub Gives : Command → List ℕ → Result (List ℕ) Fault → Type 0

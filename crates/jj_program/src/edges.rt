@@ -21,7 +21,7 @@ pub(crate) struct Edges {
 }
 
 impl Edges {
-    ghost use Rattle.jj_program.specs.Edges.{listed_by, part_at};
+    ghost use Rattle.jj_program.specs.GraphViews.{listed_by, part_at};
 
     // Creates it without lists.
     pub(crate) fn new(alloc: Global) -> Edges

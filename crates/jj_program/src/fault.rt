@@ -1,10 +1,11 @@
-//! Error types of the program.
-ghost use Rattle.std.specs.Prelude.{◌≡◌, ◌++◌, Some};
-ghost use Rattle.jj_program.specs.Faults.{line_fault_text, fault_text};
+//! Error types of the program, and error reporting on standard error, without allocation.
+ghost use Rattle.std.specs.Prelude.{◌≡◌, ◌++◌, ℕ, List, Some, false, flat_map};
+ghost use Rattle.jj_program.specs.Reports.{Says, fault_text, line_fault_text, report_text, usage_text};
 ghost use Rattle.jj_program.specs.declared.fault.Fault.{Fault};
 ghost use Rattle.jj_program.specs.declared.fault.StepFault.{StepFault};
 
 use itoa::Buffer;
+use jj_files::file_util::{Sink, write_all};
 use std::alloc::{AllocError, AllocFailed};
 use std::error::Error;
 use std::fmt;
@@ -125,4 +126,40 @@ impl<T: Drop> From<AllocFailed<T>> for StepFault {
     fn from(_refused: AllocFailed<T>) -> Self {
         StepFault::Memory
     }
+}
+
+// The usage line.
+const USAGE: &str = "usage: jj-core walk|merge|graph|hash\n";
+
+// Writes these parts of a line, and stops silently at the first write that fails.
+fn say<E: Sink>(errors: &mut E, texts: &[&str])
+    requires { E.has_failed errors.old ≡ false }
+    ensures { Says (E.contents errors.old) (E.contents errors.new) (E.has_failed errors.new)
+        (flat_map (λ text. text.now) texts.now) }
+{
+    for place in 0..texts.len() {
+        if write_all(errors, texts[place].as_bytes()).is_err() {
+            return;
+        }
+    }
+}
+
+// Prints the usage line.
+pub(crate) fn report_usage<E: Sink>(errors: &mut E)
+    requires { E.has_failed errors.old ≡ false }
+    ensures { Says (E.contents errors.old) (E.contents errors.new) (E.has_failed errors.new)
+        usage_text }
+{
+    say(errors, &[USAGE]);
+}
+
+// Prints one line that describes the fault.
+pub(crate) fn report_fault<E: Sink>(errors: &mut E, fault: Fault)
+    requires { E.has_failed errors.old ≡ false }
+    ensures { Says (E.contents errors.old) (E.contents errors.new) (E.has_failed errors.new)
+        (report_text fault) }
+{
+    let mut digits = Buffer::new();
+    let (first, second, third, fourth) = fault.as_texts(&mut digits);
+    say(errors, &["jj-core: ", first, second, third, fourth, "\n"]);
 }

@@ -3,9 +3,7 @@
 ghost use Rattle.std.specs.Prelude.{◌≡◌, ◌<◌, List, ℕ, length, map, true, Ok, IfOk};
 ghost use Rattle.std.specs.List.{count_by, position_or_len};
 ghost use Rattle.jj_program.specs.Forms.{Kind, admits, borrowed_table, evens, form_line, form_named, line_of, odds, first_fields, second_fields, is_dash, value_at, values_at};
-ghost use Rattle.jj_program.specs.Lines.{result_and_then};
-ghost use Rattle.jj_program.specs.Steps.{Agrees};
-ghost use Rattle.jj_program.specs.Texts.{texts_of};
+ghost use Rattle.jj_program.specs.Lines.{result_and_then, Agrees, texts_of};
 
 use crate::fault::{LineFault, StepFault};
 use std::alloc::{AllocError, Global};

@@ -1,20 +1,19 @@
 //! The command `graph`: reads adjacency lists, then prints the topological order, the heads or the
 //! closest common nodes of the ids of each request.
-ghost use Rattle.std.specs.Prelude.{◌≡◌, ◌++◌, ◌∷◌, ℕ, All, List, Ok, IfOk, IfErr, OnOk, string_bytes};
+ghost use Rattle.std.specs.Prelude.{◌≡◌, ◌≢◌, ◌↔◌, ◌<◌, ◌++◌, ◌∷◌, ℕ, All, IsTrue, List, None, Some, cond, Ok, IfOk, IfErr, OnOk, length, slice_index, string_bytes};
 ghost use Rattle.std.specs.List.{Contains};
-ghost use Rattle.jj_program.specs.Lines.{IsFaultOf};
-ghost use Rattle.jj_program.specs.Steps.{Agrees};
+ghost use Rattle.std.specs.Str.Parse.{digits_value};
+ghost use Rattle.jj_program.specs.Lines.{IsFaultOf, Agrees};
 ghost use Rattle.jj_program.specs.ListedGraphs.{named_by, shown_by};
-ghost use Rattle.jj_program.specs.GraphCommand.{GraphState, HasCycle, AnswersRequest, GivesGraph, graph_state, ids_of, graph_step, number_kind, numbers_line, with_node, with_request};
-ghost use Rattle.jj_program.specs.GraphViews.{graph_request_of, graph_state_of};
+ghost use Rattle.jj_program.specs.GraphCommand.{GraphState, HasCycle, is_number, AnswersRequest, GivesGraph, graph_state, graph_step, number_kind, numbers_line, with_node, with_request};
+ghost use Rattle.jj_program.specs.GraphViews.{ids_of, graph_request_of, graph_state_of};
 
 use crate::edges::Edges;
 use crate::fault::{Fault, LineFault, StepFault};
 use crate::forms::{Field, Shape, parse_line};
 use crate::graph_walks::{Visited, ascending_common, ascending_heads, greatest_order, has_cycle};
+use crate::lines::{Reading, take_lines};
 use crate::listed_graph::ListedGraph;
-use crate::number::parse_number;
-use crate::reading::{Reading, take_lines};
 use std::alloc::{AllocError, Global};
 
 // A request with its ids.
@@ -44,6 +43,28 @@ impl<'t> Field<'t> for u64 {
             Some(number) => Ok(number),
             None => Err(StepFault::Line(LineFault::BadNumber)),
         }
+    }
+}
+
+// Parses a decimal number below 2^64. A sign and leading zeros are invalid.
+fn parse_number(text: &str) -> Option<u64>
+    ensures { result ≡ cond (is_number text.now) (Some (digits_value 10 text.now)) None }
+{
+    if !is_plain(text.as_bytes()) {
+        return None;
+    }
+    text.parse::<u64>().ok()
+}
+
+// Rejects what `u64::from_str` accepts beyond that: a leading `+` and leading zeros.
+fn is_plain(text: &[u8]) -> bool
+    ensures { IsTrue result ↔ ((slice_index text.now 0 ≡ 48 → length text.now < 2)
+        × (slice_index text.now 0 ≢ 43)) }
+{
+    match text {
+        [] => true,
+        [first] => *first != b'+',
+        [first, ..] => *first != b'0' && *first != b'+',
     }
 }
 

@@ -39,7 +39,7 @@ struct SoundNodes<'a> {
 impl<'a> Iterator for SoundNodes<'a> {
     type Item = Result<usize, usize>;
 
-    ghost use Rattle.jj_program.specs.SoundNodes.{sound_left};
+    ghost use Rattle.jj_program.specs.ListedGraphs.{sound_left};
 
     ghost next_gives = { YieldsFirst sound_left };
 

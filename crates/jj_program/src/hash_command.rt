@@ -2,16 +2,13 @@
 ghost use Rattle.std.specs.Prelude.{◌≡◌, ◌++◌, ℕ, List, Ok, IfOk, IfErr, OnOk, ok_or, option_map};
 ghost use Rattle.jj_content.specs.Blake2b.{blake2b};
 ghost use Rattle.jj_program.specs.declared.fault.LineFault.{LineFault};
-ghost use Rattle.jj_program.specs.Lines.{IsFaultOf};
-ghost use Rattle.jj_program.specs.Steps.{Agrees};
-ghost use Rattle.jj_program.specs.Texts.{texts_of};
-ghost use Rattle.jj_program.specs.HashCommand.{digest_line, hashed, bytes_of_hex, hash_step, hash_output, GivesHash};
-ghost use Rattle.jj_program.specs.HashViews.{HasSize};
+ghost use Rattle.jj_program.specs.Lines.{IsFaultOf, Agrees, texts_of};
+ghost use Rattle.jj_program.specs.HashCommand.{digest_line, hashed, bytes_of_hex, hash_step, hash_output, HasSize};
 
 use crate::fault::{Fault, LineFault, StepFault};
 use crate::forms::{Shape, form_line};
+use crate::lines::{Reading, take_lines};
 use crate::merge_command::merge_of;
-use crate::reading::{Reading, take_lines};
 use jj_content::blake2b::Blake2b512;
 use jj_content::content_hash::blake2b_hash;
 use jj_content::hex_util::{decode_hex, encode_hex};
@@ -57,7 +54,7 @@ impl<'t> Reading<'t> for HashReading {
 
 // Returns the output of `hash` for an input.
 pub(crate) fn hash_lines(alloc: Global, text: &str) -> Result<Vec<u8>, Fault>
-    ensures done { IfOk result (λ output. GivesHash text.now (Ok output.items)) }
+    ensures done { IfOk result (λ output. hash_output text.now ≡ Ok output.items) }
     ensures fault { IfErr result (λ fault. IsFaultOf fault (hash_output text.now)) }
 {
     let mut reading = HashReading {

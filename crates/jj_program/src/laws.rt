@@ -1,7 +1,6 @@
 //! Laws of the program, as contracts of functions with empty bodies.
-ghost use Rattle.jj_program.specs.FirstFaults.{GivesFirstFault};
+ghost use Rattle.jj_program.specs.Laws.{GivesFirstFault, GivesOneAnswer};
 ghost use Rattle.jj_program.specs.FoundFiles.{FindsItsFiles};
-ghost use Rattle.jj_program.specs.Laws.{GivesOneAnswer};
 ghost use Rattle.jj_program.specs.LineFaults.{AnswersFirstFault};
 ghost use Rattle.jj_program.specs.LineForms.{HasTheseLines};
 

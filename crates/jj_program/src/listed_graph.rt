@@ -2,10 +2,9 @@
 //! they know of these numbers without hashing, so an input cannot choose hash collisions.
 ghost use Rattle.std.specs.Prelude.{◌≡◌, ◌<◌, ◌≤◌, All, IfOk, ℕ, get_or, length, map};
 ghost use Rattle.std.specs.List.{Contains};
-ghost use Rattle.jj_program.specs.Edges.{listed_by, part_at};
+ghost use Rattle.jj_program.specs.GraphViews.{listed_by, part_at};
 ghost use Rattle.jj_program.specs.GraphCommand.{graph_of};
-ghost use Rattle.jj_program.specs.Neighbors.{HoldsEach};
-ghost use Rattle.jj_program.specs.Numbering.{id_of};
+ghost use Rattle.jj_program.specs.Parts.{HoldsEach, id_of};
 
 use crate::edges::Edges;
 use crate::numbering::Numbering;

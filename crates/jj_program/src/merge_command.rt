@@ -1,17 +1,14 @@
 //! The command `merge`: simplifies or resolves a merge of strings per line.
 ghost use Rattle.std.specs.Prelude.{◌≡◌, ◌++◌, map, ℕ, List, All, Ok, IfOk, IfErr, OnOk, length};
 ghost use Rattle.jj_merges.specs.Merge.{IsOdd};
-ghost use Rattle.jj_program.specs.Lines.{IsFaultOf};
-ghost use Rattle.jj_program.specs.MergeCommand.{AnswersQuestion, IsMergeAnswer, MergeRequest, merge_step, merge_requests, GivesMerge};
-ghost use Rattle.jj_program.specs.Requests.{AnswersEach};
-ghost use Rattle.jj_program.specs.Texts.{texts_of};
+ghost use Rattle.jj_program.specs.Lines.{IsFaultOf, AnswersEach, texts_of};
+ghost use Rattle.jj_program.specs.MergeCommand.{IsMergeAnswer, MergeRequest, merge_step, merge_requests, GivesMerge};
 ghost use Rattle.jj_program.specs.MergeViews.{IsWithin, request_in};
 
 use crate::fault::{Fault, StepFault};
 use crate::forms::{Shape, form_line};
+use crate::lines::{Reading, push_line, take_lines};
 use crate::merge_outcome::outcome;
-use crate::output_lines::push_line;
-use crate::reading::{Reading, take_lines};
 use jj_merges::merge::{Merge, MergeBuilder, SameChange};
 use std::alloc::{AllocError, Global};
 
@@ -133,7 +130,7 @@ fn push_answer(
 ) -> Result<(), AllocError>
     requires { IsOdd (length terms.now) }
     ensures { OnOk result ((answer : List ℕ)
-        × AnswersQuestion question (texts_of terms.now) answer
+        × IsMergeAnswer (question, texts_of terms.now) answer
         × (output.new.items ≡ output.old.items ++ answer)) }
 {
     match question {

@@ -5,7 +5,7 @@ ghost use Rattle.std.specs.List.Sorted.{IsPermutation};
 ghost use Rattle.jj_merges.specs.Merge.{IsOdd, HaveSameCounts};
 ghost use Rattle.jj_merges.specs.Merge as merge;
 ghost use Rattle.jj_merges.specs.Resolution.{ResolvesTo};
-ghost use Rattle.jj_program.specs.TextMerges.{text_eq, HaveCountsOf, IsTextOutcome};
+ghost use Rattle.jj_program.specs.MergeViews.{text_eq, HaveCountsOf, IsTextOutcome};
 
 use crate::merge_command::merge_of;
 use jj_merges::merge::{EverySecond, Merge, SameChange, trivial_merge};

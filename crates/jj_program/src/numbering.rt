@@ -2,7 +2,7 @@
 ghost use Rattle.std.specs.Prelude.{◌≡◌, ◌↔◌, ◌<◌, ℕ, IfOk, IsTrue, All, length, map};
 ghost use Rattle.std.specs.List.{Contains};
 ghost use Rattle.std.specs.List.Sorted.{IsStrictlyIncreasing};
-ghost use Rattle.jj_program.specs.Numbering.{IsNumberOf, id_of};
+ghost use Rattle.jj_program.specs.Parts.{IsNumberOf, id_of};
 
 use std::alloc::{AllocError, Global};
 

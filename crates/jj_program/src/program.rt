@@ -9,10 +9,10 @@ ghost use Rattle.jj_program.specs.Reports.{usage_text, report_text, Says};
 ghost use Rattle.jj_program.specs.declared.fault.Fault.{Fault};
 
 pub use crate::fault::{Fault, LineFault};
+use crate::fault::{report_fault, report_usage};
 use crate::graph_command::graph_output;
 use crate::hash_command::hash_lines;
 use crate::merge_command::merge_output;
-use crate::report::{report_fault, report_usage};
 use crate::walk_command::walk_output;
 use jj_files::file_util::{Sink, Source, write_all};
 use std::alloc::Global;

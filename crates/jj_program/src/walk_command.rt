@@ -7,19 +7,16 @@ ghost use Rattle.jj_paths.specs.Tree.{Tree};
 ghost use Rattle.jj_globs.specs.GlobMeaning.{GlobSpec};
 ghost use Rattle.jj_matchers.specs.Marks.{IsMarkedTree};
 ghost use Rattle.jj_program.specs.Lines.{IsFaultOf};
-ghost use Rattle.jj_program.specs.SetTrees.{SetTree};
-ghost use Rattle.jj_program.specs.WalkCommand.{WalkState, glob_kind, path_kind, walk_step, walk_request};
+ghost use Rattle.jj_program.specs.WalkCommand.{SetTree, WalkState, glob_kind, path_kind, walk_step, walk_request, GivesWalk, walk_lines, path_lines};
 ghost use Rattle.jj_program.specs.declared.file_set.matcher.FileSet.{FileSet};
-ghost use Rattle.jj_program.specs.WalkViews.{sets_in, state_of};
-ghost use Rattle.jj_program.specs.Walked.{GivesWalk, walk_lines, path_lines};
+ghost use Rattle.jj_program.specs.SetCode.{sets_of};
 
 use crate::fault::{Fault, LineFault, StepFault};
 use crate::file_set::Combination::{Difference, Intersection, Union};
 use crate::file_set::SetWord::{Everything, Files, Globs, Nothing, Prefix, PrefixGlobs};
 use crate::file_set::{Combination, SetLine, SetStack, SetWord, walk_set};
 use crate::forms::{Field, Shape, parse_line};
-use crate::output_lines::push_line;
-use crate::reading::{Reading, take_lines};
+use crate::lines::{Reading, push_line, take_lines};
 use crate::walk_command::WalkForm::{Combine, Mark, Push};
 use jj_globs::glob::GlobError;
 use jj_matchers::matchers::{PathGlobPattern, marked_tree};
@@ -94,7 +91,10 @@ pub(crate) const WALK_FORMS: &[(&str, Shape, WalkForm)] = &[
 impl<'t> Reading<'t> for WalkReading<'t> {
     ghost State = { WalkState };
 
-    ghost state = { state_of };
+    ghost state = { λ reading. record {
+      marks = map path_of reading.marks.items;
+      stack = sets_of reading.sets.ops.items;
+    } };
 
     ghost step = { walk_step };
 
@@ -134,8 +134,9 @@ fn found_lines(
     marks: Vec<RepoPath<'_>>,
     sets: SetStack<'_>,
 ) -> Result<Vec<u8>, AllocError>
-    requires { length (sets_in sets) ≡ 1 }
-    ensures { IfOk result (λ output. (set : SetTree FileSet) → sets_in sets.entry ≡ set ∷ []
+    requires { length (sets_of sets.ops.items) ≡ 1 }
+    ensures { IfOk result (λ output. (set : SetTree FileSet)
+        → sets_of sets.entry.ops.items ≡ set ∷ []
         → (tree : Tree Bool) × IsMarkedTree (map path_of marks.entry.items) tree
         × (output.items ≡ walk_lines set tree)) }
 {

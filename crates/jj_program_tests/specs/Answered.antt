@@ -10,8 +10,7 @@ use Rattle.jj_program.specs.FoundFiles.{AreFound}
 use Rattle.jj_program.specs.LineFaults.{IsToldBy}
 use Rattle.jj_program.specs.Lines.{lines_of}
 use Rattle.jj_program.specs.Program.{Gives}
-use Rattle.jj_program.specs.WalkCommand.{WalkRequest, walk_request}
-use Rattle.jj_program.specs.Walked.{path_lines}
+use Rattle.jj_program.specs.WalkCommand.{WalkRequest, walk_request, path_lines}
 
 -- the input has this fault; or out of memory, for the work or for the output; or more reads than
 -- can be counted

@@ -1,6 +1,6 @@
 //! The matchers of a set that a line pushes and of a combined set, which is evaluated over its
 //! code.
-ghost use Rattle.std.specs.Prelude.{◌≡◌, List, [], ◌∷◌, length, map, reverse, IfOk};
+ghost use Rattle.std.specs.Prelude.{◌≡◌, List, [], ◌∷◌, false, length, map, reverse, IfOk};
 ghost use Rattle.std.specs.List.{AllZip, zip};
 ghost use Rattle.jj_paths.specs.Names.{path_of};
 ghost use Rattle.jj_paths.specs.Paths.{Path};
@@ -8,14 +8,10 @@ ghost use Rattle.jj_matchers.specs.Patterns.{HasSamePatterns};
 ghost use Rattle.jj_matchers.specs.Visits.{visit_spec};
 ghost use Rattle.jj_matchers.specs.Walk.{files_of, entered_by};
 ghost use Rattle.jj_program.specs.declared.file_set.SetOp.{SetOp};
-ghost use Rattle.jj_program.specs.SetTrees.{SetTree, both};
-ghost use Rattle.jj_program.specs.SetViews.{op_of, set_of};
-ghost use Rattle.jj_program.specs.Matching.{IsAlike, IsAlikeOp, IsTold, made_by, visits_at};
-ghost use Rattle.jj_program.specs.Walked.{leaf_spec, spec_of};
-ghost use Rattle.jj_program.specs.WalkViews.{sets_in};
+ghost use Rattle.jj_program.specs.WalkCommand.{SetTree, both, leaf_spec, spec_of};
+ghost use Rattle.jj_program.specs.SetCode.{op_of, set_of, IsAlike, IsAlikeOp, made_by, pass_over, visits_at, sets_of};
 
-use crate::file_set::code::{compile, evaluate};
-use crate::file_set::{Combination, SetLine, SetOp, SetStack, SetWord};
+use crate::file_set::{Combination, SetLine, SetOp, SetStack, SetWord, compile, evaluate};
 use jj_matchers::matchers::{
     EverythingMatcher, FilesMatcher, GlobsMatcher, Matcher, NothingMatcher, PathGlobPattern,
     PrefixMatcher, Visit, Walk, difference_visit, intersection_visit, union_visit, walk_matching,
@@ -35,7 +31,7 @@ pub(crate) enum FileSet {
 }
 
 impl Matcher for FileSet {
-    ghost use Rattle.jj_program.specs.Walked.{leaf_spec};
+    ghost use Rattle.jj_program.specs.WalkCommand.{leaf_spec};
 
     ghost accepts = { λ set. (leaf_spec set).accepts };
 
@@ -105,12 +101,14 @@ fn globs_matcher(
 #[derive(Drop)]
 pub(crate) struct SetMatcher {
     code: Vec<SetOp<FileSet>>,
-    ghost told: { IsTold code.items },
+    // One pass over the code decides membership.
+    ghost decided: { (path : Path) → (pass_over path code.items (0, false)).1
+        ≡ (spec_of (made_by code.items)).accepts path },
 }
 
 impl Matcher for SetMatcher {
-    ghost use Rattle.jj_program.specs.Matching.{made_by};
-    ghost use Rattle.jj_program.specs.Walked.{spec_of};
+    ghost use Rattle.jj_program.specs.SetCode.{made_by};
+    ghost use Rattle.jj_program.specs.WalkCommand.{spec_of};
 
     ghost accepts = { λ matcher. (spec_of (made_by matcher.code.items)).accepts };
 
@@ -230,8 +228,9 @@ fn matcher_of(alloc: Global, op: &SetOp<SetLine<'_>>) -> Result<SetOp<FileSet>, 
 impl SetMatcher {
     // Compiles the only set of a stack.
     fn new(alloc: Global, sets: SetStack<'_>) -> Result<SetMatcher, AllocError>
-        requires { length (sets_in sets) ≡ 1 }
-        ensures { IfOk result (λ matcher. (set : SetTree FileSet) → sets_in sets.entry ≡ set ∷ []
+        requires { length (sets_of sets.ops.items) ≡ 1 }
+        ensures { IfOk result (λ matcher. (set : SetTree FileSet)
+            → sets_of sets.entry.ops.items ≡ set ∷ []
             → IsAlike (spec_of (made_by matcher.code.items)) (spec_of set)) }
     {
         let code = compile(alloc, sets.into_ops())?;
@@ -247,10 +246,12 @@ pub(crate) fn walk_set(
     tree: &RepoPathTree<bool>,
     sets: SetStack<'_>,
 ) -> Result<Walk, AllocError>
-    requires { length (sets_in sets) ≡ 1 }
-    ensures files { IfOk result (λ walk. (set : SetTree FileSet) → sets_in sets.entry ≡ set ∷ []
+    requires { length (sets_of sets.ops.items) ≡ 1 }
+    ensures files { IfOk result (λ walk. (set : SetTree FileSet)
+        → sets_of sets.entry.ops.items ≡ set ∷ []
         → walk.files.items ≡ files_of (spec_of set).accepts tree.now) }
-    ensures entered { IfOk result (λ walk. (set : SetTree FileSet) → sets_in sets.entry ≡ set ∷ []
+    ensures entered { IfOk result (λ walk. (set : SetTree FileSet)
+        → sets_of sets.entry.ops.items ≡ set ∷ []
         → walk.entered.items ≡ entered_by (spec_of set).visits tree.now) }
 {
     let matcher = SetMatcher::new(alloc, sets)?;

@@ -2,7 +2,7 @@ use Rattle.std.proofs.Common.{◌+◌, ◌<◌, ◌∙◌, sym, ap, length, arit
 use Rattle.std.specs.Prelude.{◌&&◌}
 use Rattle.std.specs.List.{list_all}
 use Rattle.std.proofs.lemmas.Result.{err_from_is_err_and}
-use Rattle.jj_program.specs.Texts.{Text, texts_of}
+use Rattle.jj_program.specs.Lines.{Text, texts_of}
 use Rattle.jj_program.proofs.Steps.{drop_map_next}
 use Rattle.jj_program.proofs.FieldValues.{field-ok, field-fault, values_more}
 use Rattle.jj_program.proofs.forms.parse_fields.Goals as goal

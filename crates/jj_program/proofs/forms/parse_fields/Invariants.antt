@@ -1,7 +1,7 @@
 -- The values are those of the fields so far, all of which are valid.
 use Rattle.std.proofs.Common.{◌≡◌, map, take, drop}
 use Rattle.std.specs.List.{list_all}
-use Rattle.jj_program.specs.Texts.{texts_of}
+use Rattle.jj_program.specs.Lines.{texts_of}
 use Rattle.jj_program.proofs.forms.parse_fields.Given as goal
 
 abbrev pub invariant-loop-field : goal.invariant-loop-field

@@ -4,9 +4,7 @@ use Rattle.std.proofs.lemmas.List.{take-map, drop-map, take_all}
 use Rattle.jj_program.specs.declared.fault.LineFault.{LineFault}
 use Rattle.jj_program.specs.declared.forms.Shape.{Shape}
 use Rattle.jj_program.specs.Forms.{first_fields, is_dash, second_fields, values_at}
-use Rattle.jj_program.specs.Lines.{result_and_then}
-use Rattle.jj_program.specs.Steps.{Agrees}
-use Rattle.jj_program.specs.Texts.{Text, texts_of}
+use Rattle.jj_program.specs.Lines.{result_and_then, Agrees, Text, texts_of}
 use Rattle.jj_program.proofs.ParsedForms.{both}
 use Rattle.jj_program.proofs.forms.parse_line.Goals as goal
 

@@ -1,7 +1,7 @@
 -- The pairs so far, followed by the remaining ones, are all pairs.
 use Rattle.std.proofs.Common.{◌≡◌, ◌++◌, length}
 use Rattle.jj_program.specs.Forms.{evens, odds}
-use Rattle.jj_program.specs.Texts.{texts_of}
+use Rattle.jj_program.specs.Lines.{texts_of}
 use Rattle.jj_program.proofs.forms.split_pairs.Given as goal
 
 abbrev pub invariant-loop-rest : goal.invariant-loop-rest

@@ -3,8 +3,7 @@ use Rattle.std.specs.List.{Contains}
 use Rattle.std.proofs.lemmas.List.{take_all}
 use Rattle.std.proofs.lemmas.List.Elements.{All-more, All-nil, All-weaker}
 use Rattle.jj_program.specs.declared.graph_command.GraphRequest.{GraphRequest}
-use Rattle.jj_program.specs.GraphCommand.{ids_of}
-use Rattle.jj_program.specs.GraphViews.{graph_request_of}
+use Rattle.jj_program.specs.GraphViews.{ids_of, graph_request_of}
 use Rattle.jj_program.proofs.AskedIds.{added_held, still_held}
 use Rattle.jj_program.proofs.graph_command.asked_ids.Goals as goal
 

@@ -1,8 +1,7 @@
 -- The ids of the requests so far are collected.
 use Rattle.std.proofs.Common.{All, take}
 use Rattle.std.specs.List.{Contains}
-use Rattle.jj_program.specs.GraphCommand.{ids_of}
-use Rattle.jj_program.specs.GraphViews.{graph_request_of}
+use Rattle.jj_program.specs.GraphViews.{ids_of, graph_request_of}
 use Rattle.jj_program.proofs.graph_command.asked_ids.Given as goal
 
 abbrev pub invariant-loop-request : goal.invariant-loop-request

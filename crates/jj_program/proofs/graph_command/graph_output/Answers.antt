@@ -1,13 +1,12 @@
-use Rattle.std.proofs.Common.{◌≡◌, ◌∙◌, ◌++◌, ◌<◌, ℕ, List, [], map, take, length, ap, subst, sym, refl, arith, inl, inr}
+use Rattle.std.proofs.Common.{◌≡◌, ◌∙◌, ◌++◌, ◌<◌, ℕ, List, [], map, take, length, ap, subst, sym, refl, arith, inl, inr, None}
 use Rattle.std.specs.Prelude.{All, codes, string_bytes}
 use Rattle.std.specs.List.{Contains}
 use Rattle.std.proofs.lemmas.List.Elements.{All-contains, All-weaker}
 use Rattle.std.proofs.lemmas.List.{take_all}
-use Rattle.jj_program.specs.Lines.{after_lines, line_text, lines_of}
-use Rattle.jj_program.specs.Requests.{AnswersEach}
+use Rattle.jj_program.specs.Lines.{after_lines, line_text, lines_of, AnswersEach}
 use Rattle.jj_program.specs.ListedGraphs.{named_by, shown_by}
-use Rattle.jj_program.specs.GraphCommand.{GraphState, IsGraphAnswer, graph_of, graph_start, graph_step, ids_of}
-use Rattle.jj_program.specs.GraphViews.{graph_request_of, graph_state_of}
+use Rattle.jj_program.specs.GraphCommand.{GraphState, IsGraphAnswer, graph_of, graph_step}
+use Rattle.jj_program.specs.GraphViews.{ids_of, graph_request_of, graph_state_of}
 use Rattle.jj_program.proofs.Requests.{AnswersEach-more}
 use Rattle.jj_program.proofs.graph_command.graph_output.Goals as goal
 use Rattle.jj_program.proofs.graph_command.graph_output.Goals.{then-cyclic+in_ok-push_str, else-cyclic+in_ok-push_answer}
@@ -45,7 +44,7 @@ pub returns-clause-done : goal.returns-clause-done
 returns-clause-done c =
     let reading = c.take_lines.new.reading in
     let state : GraphState = graph_state_of reading in
-    let start : graph_state_of (record { edges = c.new.result; requests = c.new-2.result }) ≡ graph_start =
+    let start : graph_state_of (record { edges = c.new.result; requests = c.new-2.result }) ≡ record { listed = λ id. None; requests = [] } =
     λ i. record { listed = c.new.ensures i; requests = map graph_request_of (c.new-2.ensures.items i) } in
     let read = ap (λ s. after_lines graph_step 1 s (lines_of c.args.text.now)) (sym start) ∙ c.in_ok-take_lines.ensures in
     let items = c.deref-request-items.result.now in

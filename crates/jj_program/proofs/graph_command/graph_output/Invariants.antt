@@ -2,7 +2,7 @@
 use Rattle.std.proofs.Common.{map, take}
 use Rattle.std.specs.Prelude.{string_bytes}
 use Rattle.jj_program.specs.ListedGraphs.{shown_by}
-use Rattle.jj_program.specs.Requests.{AnswersEach}
+use Rattle.jj_program.specs.Lines.{AnswersEach}
 use Rattle.jj_program.specs.GraphCommand.{IsGraphAnswer}
 use Rattle.jj_program.specs.GraphViews.{graph_request_of}
 use Rattle.jj_program.proofs.graph_command.graph_output.Given as goal

@@ -5,8 +5,8 @@ use Rattle.std.proofs.lemmas.Result.{IfOk-weaker}
 use Rattle.jj_dag.specs.CommonNodes.{AreClosestCommon}
 use Rattle.jj_dag.specs.Graph.{Graph, IsGreatestTopologicalOrder, AreMaximalElements}
 use Rattle.jj_program.specs.ListedGraphs.{named_by, shown_by}
-use Rattle.jj_program.specs.GraphCommand.{GraphRequest, Order, Heads, Common, AnswersRequest, ids_of, numbers_line}
-use Rattle.jj_program.specs.GraphViews.{graph_request_of}
+use Rattle.jj_program.specs.GraphCommand.{GraphRequest, Order, Heads, Common, AnswersRequest, numbers_line}
+use Rattle.jj_program.specs.GraphViews.{ids_of, graph_request_of}
 use Rattle.jj_program.proofs.AskedIds.{back_held, front_held}
 use Rattle.jj_program.proofs.graph_command.push_answer.Goals as goal
 

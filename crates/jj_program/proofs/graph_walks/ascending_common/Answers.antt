@@ -6,7 +6,7 @@ use Rattle.jj_dag.specs.CommonNodes.{AreClosestCommon}
 use Rattle.jj_dag.proofs.Collecting.{are_nodes}
 use Rattle.jj_dag.proofs.Errors.{node_says}
 use Rattle.jj_program.specs.ListedGraphs.{named_by, shown_by}
-use Rattle.jj_program.specs.Numbering.{id_of}
+use Rattle.jj_program.specs.Parts.{id_of}
 use Rattle.jj_program.proofs.GraphClosures.{closed_over, implements_oks, no_error, walk_over}
 use Rattle.jj_program.proofs.NumberedWalks.{all_within, nodes_among}
 use Rattle.jj_program.proofs.ListedGraphs.{copied_nodes, closest_permuted, closest_rising}

@@ -4,7 +4,7 @@ use Rattle.std.specs.List.Sorted.{IsPermutation}
 use Rattle.std.proofs.lemmas.Fn.{always_returns_same}
 use Rattle.jj_dag.specs.Graph.{AreMaximalElements}
 use Rattle.jj_program.specs.ListedGraphs.{named_by, shown_by}
-use Rattle.jj_program.specs.Numbering.{id_of}
+use Rattle.jj_program.specs.Parts.{id_of}
 use Rattle.jj_program.proofs.GraphClosures.{implements_lists, walk_over}
 use Rattle.jj_program.proofs.NumberedWalks.{all_within, nodes_among, numbers_equal}
 use Rattle.jj_program.proofs.ListedGraphs.{copied_nodes, none_reached, maximal_permuted, maximal_rising}

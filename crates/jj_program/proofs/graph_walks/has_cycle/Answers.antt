@@ -3,7 +3,7 @@ use Rattle.std.proofs.lemmas.Fn.{always_returns_same}
 use Rattle.jj_dag.specs.Graph.{IsAcyclicFrom}
 use Rattle.jj_dag.proofs.Errors.{node_says}
 use Rattle.jj_program.specs.ListedGraphs.{named_by, shown_by}
-use Rattle.jj_program.specs.Numbering.{id_of}
+use Rattle.jj_program.specs.Parts.{id_of}
 use Rattle.jj_program.proofs.GraphClosures.{implements_lists, walk_over}
 use Rattle.jj_program.proofs.ListedEdges.{edges_hold, targets_named}
 use Rattle.jj_program.proofs.ListedGraphs.{copied_nodes, none_listed}

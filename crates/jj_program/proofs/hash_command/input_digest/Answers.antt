@@ -3,7 +3,7 @@ use Rattle.jj_content.specs.Blake2b.{blake2b}
 use Rattle.jj_content.specs.Content.{string_content, list_content}
 use Rattle.jj_program.specs.declared.hash_command.HashInput.{HashInput}
 use Rattle.jj_program.specs.HashCommand.{hashed}
-use Rattle.jj_program.specs.Texts.{Text, texts_of}
+use Rattle.jj_program.specs.Lines.{Text, texts_of}
 use Rattle.jj_program.proofs.HashContent.{content_of_texts}
 use Rattle.jj_program.proofs.hash_command.input_digest.Goals as goal
 

@@ -1,6 +1,6 @@
 -- The output has the lines of the requests so far.
 use Rattle.std.proofs.Common.{map, take}
-use Rattle.jj_program.specs.Requests.{AnswersEach}
+use Rattle.jj_program.specs.Lines.{AnswersEach}
 use Rattle.jj_program.specs.MergeCommand.{IsMergeAnswer}
 use Rattle.jj_program.specs.MergeViews.{request_in}
 use Rattle.jj_program.proofs.merge_command.answer_lines.Given as goal

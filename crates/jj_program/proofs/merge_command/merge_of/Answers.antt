@@ -4,7 +4,7 @@ use Rattle.std.proofs.lemmas.Iterator.{YieldsList-from_slice}
 use Rattle.std.proofs.lemmas.Iterator.Adapters.{items_from_extend}
 use Rattle.std.proofs.lemmas.Iterator.Consumers.{YieldsList-from_copied}
 use Rattle.jj_merges.specs.Merge.{IsOdd}
-use Rattle.jj_program.specs.Texts.{Text}
+use Rattle.jj_program.specs.Lines.{Text}
 use Rattle.jj_program.proofs.merge_command.merge_of.Goals as goal
 
 pub build-requires : goal.build-requires

@@ -1,6 +1,6 @@
 use Rattle.std.proofs.Common.{subst}
 use Rattle.jj_merges.specs.Merge.{HaveSameCounts}
-use Rattle.jj_program.specs.TextMerges.{IsTextOutcome, text_eq}
+use Rattle.jj_program.specs.MergeViews.{IsTextOutcome, text_eq}
 use Rattle.jj_program.proofs.TextOutcomes.{outcome_by_counts}
 use Rattle.jj_program.proofs.merge_outcome.outcome.Goals as goal
 

@@ -3,8 +3,8 @@ use Rattle.std.specs.Prelude.{count_by}
 use Rattle.std.proofs.lemmas.List.Sorted.{length_permutation, sum_by-IsPermutation}
 use Rattle.jj_merges.specs.Merge.{adds, removes}
 use Rattle.jj_merges.proofs.SimplifiedIndices.{signed_counts_equal}
-use Rattle.jj_program.specs.Texts.{Text}
-use Rattle.jj_program.specs.TextMerges.{text_eq}
+use Rattle.jj_program.specs.Lines.{Text}
+use Rattle.jj_program.specs.MergeViews.{text_eq}
 use Rattle.jj_program.proofs.TextOutcomes.{one_more_add}
 use Rattle.jj_program.proofs.merge_outcome.with_pairs_cancelled.Goals as goal
 

@@ -3,8 +3,8 @@ use Rattle.std.specs.Prelude.{count_by}
 use Rattle.std.specs.Str.{bytes_eq}
 use Rattle.std.proofs.lemmas.List.{length_push}
 use Rattle.std.proofs.lemmas.Slice.Eq.{bytes_eq-Decides}
-use Rattle.jj_program.specs.Texts.{Text}
-use Rattle.jj_program.specs.TextMerges.{text_eq}
+use Rattle.jj_program.specs.Lines.{Text}
+use Rattle.jj_program.specs.MergeViews.{text_eq}
 use Rattle.jj_program.proofs.PairCounts.{one_kept, both_gone, rest_kept}
 use Rattle.jj_program.proofs.merge_outcome.without_pairs.Goals as goal
 

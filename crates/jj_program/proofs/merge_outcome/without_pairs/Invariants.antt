@@ -1,7 +1,7 @@
 use Rattle.std.proofs.Common.{◌≡◌, ◌+◌, ◌-◌, ◌≤◌, length, take}
 use Rattle.std.specs.Prelude.{count_by}
-use Rattle.jj_program.specs.Texts.{Text}
-use Rattle.jj_program.specs.TextMerges.{text_eq}
+use Rattle.jj_program.specs.Lines.{Text}
+use Rattle.jj_program.specs.MergeViews.{text_eq}
 use Rattle.jj_program.proofs.merge_outcome.without_pairs.Given as goal
 
 abbrev pub invariant-loop-i : goal.invariant-loop-i

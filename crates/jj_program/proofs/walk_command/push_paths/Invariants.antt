@@ -1,6 +1,6 @@
 -- The lines of the paths so far are written.
 use Rattle.std.proofs.Common.{◌≡◌, ◌++◌, take}
-use Rattle.jj_program.specs.Walked.{path_lines}
+use Rattle.jj_program.specs.WalkCommand.{path_lines}
 use Rattle.jj_program.proofs.walk_command.push_paths.Given as goal
 
 abbrev pub invariant-loop-path : goal.invariant-loop-path

@@ -1,5 +1,5 @@
-use Rattle.std.proofs.Common.{rules, ◌≡◌, ◌≤◌, ◌++◌, ◌∷◌, [], ℕ, false, length, subst, sym}
-use Rattle.std.specs.Prelude.{is_ok, is_some, None}
+use Rattle.std.proofs.Common.{rules, ◌≡◌, ◌≤◌, ◌++◌, ◌∷◌, [], ℕ, length, subst, sym}
+use Rattle.std.specs.Prelude.{is_ok, None}
 use Rattle.std.proofs.lemmas.Result.{on_ok_weaker}
 use Rattle.jj_program.specs.Parts.{AreAbove, AreBelow, part_in}
 use Rattle.jj_program.proofs.ListedEdges.{PutsPart, find, first_listed, holds_pushed, holds_put, holds_put_first, lists_more, new_above, new_below, not_found, puts_entry, puts_first, puts_other}

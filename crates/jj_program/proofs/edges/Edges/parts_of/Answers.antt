@@ -1,5 +1,5 @@
-use Rattle.std.proofs.Common.{rules, arith}
-use Rattle.jj_program.specs.Edges.{part_at}
+use Rattle.std.proofs.Common.{arith}
+use Rattle.jj_program.specs.GraphViews.{part_at}
 use Rattle.jj_program.proofs.NumberedWalks.{mapped_more}
 use Rattle.jj_program.proofs.edges.Edges.parts_of.Goals as goal
 

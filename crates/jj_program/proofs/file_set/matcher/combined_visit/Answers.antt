@@ -1,6 +1,6 @@
 use Rattle.std.proofs.Common.{◌∙◌, ap, sym}
 use Rattle.jj_matchers.specs.Visits.{visit_spec}
-use Rattle.jj_program.specs.Walked.{combined_spec, spec_of}
+use Rattle.jj_program.specs.WalkCommand.{combined_spec, spec_of}
 use Rattle.jj_program.proofs.SetVisits.{met}
 use Rattle.jj_program.proofs.file_set.matcher.combined_visit.Goals as goal
 

@@ -2,8 +2,7 @@ use Rattle.std.proofs.Common.{◌≡◌, ◌∙◌, ◌+◌, ◌++◌, [], ◌�
 use Rattle.std.specs.List.{AllZip}
 use Rattle.std.proofs.lemmas.List.{map-append, take_more}
 use Rattle.std.proofs.lemmas.List.Elements.{AllZip-push}
-use Rattle.jj_program.specs.Matching.{IsAlikeOp}
-use Rattle.jj_program.specs.SetViews.{op_of}
+use Rattle.jj_program.specs.SetCode.{IsAlikeOp, op_of}
 use Rattle.jj_program.proofs.file_set.matcher.matchers_of.Goals as goal
 
 pub loop-op-preserved : goal.loop-op-preserved

@@ -1,8 +1,7 @@
 -- The operations so far are alike.
 use Rattle.std.proofs.Common.{map, take}
 use Rattle.std.specs.List.{AllZip}
-use Rattle.jj_program.specs.Matching.{IsAlikeOp}
-use Rattle.jj_program.specs.SetViews.{op_of}
+use Rattle.jj_program.specs.SetCode.{IsAlikeOp, op_of}
 use Rattle.jj_program.proofs.file_set.matcher.matchers_of.Given as goal
 
 abbrev pub invariant-loop-op : goal.invariant-loop-op

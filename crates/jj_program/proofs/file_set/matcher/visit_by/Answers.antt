@@ -1,7 +1,7 @@
 use Rattle.std.proofs.Common.{◌≡◌, ◌∙◌, ◌∷◌, ◌<◌, ◌-◌, suc, ap, sym, arith, drop, drop-cons, length}
 use Rattle.std.proofs.lemmas.List.{nil_from_length}
 use Rattle.jj_paths.specs.Names.{path_of}
-use Rattle.jj_program.specs.Matching.{visits_at}
+use Rattle.jj_program.specs.SetCode.{visits_at}
 use Rattle.jj_program.proofs.SetVisits.{visit_top, visit_none}
 use Rattle.jj_program.proofs.file_set.matcher.visit_by.Goals as goal
 

@@ -2,7 +2,7 @@
 use Rattle.std.proofs.Common.{◌≡◌, ◌≤◌, drop, length, map, reverse}
 use Rattle.jj_paths.specs.Names.{path_of}
 use Rattle.jj_matchers.specs.Visits.{visit_spec}
-use Rattle.jj_program.specs.Matching.{visits_at}
+use Rattle.jj_program.specs.SetCode.{visits_at}
 use Rattle.jj_program.proofs.file_set.matcher.visit_by.Given as goal
 
 abbrev pub invariant-loop-left : goal.invariant-loop-left

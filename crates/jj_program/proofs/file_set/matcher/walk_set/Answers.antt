@@ -3,10 +3,8 @@ use Rattle.std.proofs.lemmas.Result.{IfOk-weaker}
 use Rattle.jj_paths.specs.Paths.{Path}
 use Rattle.jj_matchers.specs.Walk.{files_of, entered_by}
 use Rattle.jj_program.specs.declared.file_set.matcher.FileSet.{FileSet}
-use Rattle.jj_program.specs.Matching.{made_by}
-use Rattle.jj_program.specs.SetTrees.{SetTree}
-use Rattle.jj_program.specs.WalkViews.{sets_in}
-use Rattle.jj_program.specs.Walked.{spec_of}
+use Rattle.jj_program.specs.SetCode.{made_by, sets_of}
+use Rattle.jj_program.specs.WalkCommand.{SetTree, spec_of}
 use Rattle.jj_program.proofs.file_set.matcher.walk_set.Goals as goal
 
 -- a walk by the matcher finds what a walk by the set finds
@@ -22,9 +20,9 @@ found_alike result found finds by_matcher by_set sets alike =
 pub returns-clause-files : goal.returns-clause-files
 returns-clause-files c =
     found_alike c.walk_matching.result (λ walk. walk.files.items) (λ accepts. files_of accepts c.args.tree.now) (spec_of (made_by c.in_ok-matcher.matcher.code.items)).accepts (λ set. (spec_of set).accepts)
-    (sets_in c.args.sets) (λ set only. (c.in_ok-matcher.ensures set only).accepts) c.walk_matching.ensures.files
+    (sets_of c.args.sets.ops.items) (λ set only. (c.in_ok-matcher.ensures set only).accepts) c.walk_matching.ensures.files
 
 pub returns-clause-entered : goal.returns-clause-entered
 returns-clause-entered c =
     found_alike c.walk_matching.result (λ walk. walk.entered.items) (λ visits. entered_by visits c.args.tree.now) (spec_of (made_by c.in_ok-matcher.matcher.code.items)).visits (λ set. (spec_of set).visits)
-    (sets_in c.args.sets) (λ set only. (c.in_ok-matcher.ensures set only).visits) c.walk_matching.ensures.entered
+    (sets_of c.args.sets.ops.items) (λ set only. (c.in_ok-matcher.ensures set only).visits) c.walk_matching.ensures.entered

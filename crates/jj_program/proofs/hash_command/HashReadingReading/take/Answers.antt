@@ -1,4 +1,4 @@
-use Rattle.jj_program.specs.Texts.{texts_of}
+use Rattle.jj_program.specs.Lines.{texts_of}
 use Rattle.jj_program.proofs.FormRows.{sized_input}
 use Rattle.jj_program.proofs.hash_command.HashReadingReading.take.Goals as goal
 

@@ -1,7 +1,7 @@
 use Rattle.std.proofs.Common.{◌∙◌, ap, get_or, map}
 use Rattle.std.specs.List.{slice_range}
 use Rattle.jj_program.specs.ListedGraphs.{named_by}
-use Rattle.jj_program.specs.Numbering.{id_of}
+use Rattle.jj_program.specs.Parts.{id_of}
 use Rattle.jj_program.proofs.ListedEdges.{part_named}
 use Rattle.jj_program.proofs.listed_graph.ListedGraph.neighbors_of.Goals as goal
 

@@ -1,7 +1,7 @@
 use Rattle.std.proofs.Common.{◌≡◌, ◌∙◌, ◌++◌, ap, map, subst, sym}
 use Rattle.std.specs.Prelude.{All}
 use Rattle.std.specs.List.{Contains}
-use Rattle.jj_program.specs.Edges.{part_at}
+use Rattle.jj_program.specs.GraphViews.{part_at}
 use Rattle.jj_program.proofs.AskedIds.{back_held, front_held}
 use Rattle.jj_program.proofs.ListedEdges.{holds_each}
 use Rattle.jj_program.proofs.listed_graph.ListedGraph.new.Goals as goal

@@ -1,8 +1,8 @@
-use Rattle.std.proofs.Common.{rules, arith, ◌≡◌, ◌∙◌, ◌<◌, ◌≤◌, ap, get_or, length, map, sym}
+use Rattle.std.proofs.Common.{rules, arith, ◌≡◌, ◌∙◌, ◌<◌, ◌≤◌, ap, get_or, length, sym}
 use Rattle.std.proofs.lemmas.List.{length-map}
-use Rattle.jj_program.specs.Edges.{part_at}
+use Rattle.jj_program.specs.GraphViews.{part_at}
 use Rattle.jj_program.specs.ListedGraphs.{named_by}
-use Rattle.jj_program.specs.Numbering.{id_of}
+use Rattle.jj_program.specs.Parts.{id_of}
 use Rattle.jj_program.proofs.ListedEdges.{part_of_number, part_within}
 use Rattle.jj_program.proofs.listed_graph.ListedGraph.part.Goals as goal
 

@@ -5,10 +5,9 @@ use Rattle.jj_program.specs.declared.fault.LineFault.{LineFault}
 use Rattle.jj_program.specs.declared.forms.Shape.{Shape}
 use Rattle.jj_program.specs.declared.merge_command.MergeRequest.{MergeRequest as Request}
 use Rattle.jj_program.specs.declared.merge_command.Question.{Question}
-use Rattle.jj_program.specs.Lines.{result_and_then}
+use Rattle.jj_program.specs.Lines.{result_and_then, Text, texts_of}
 use Rattle.jj_program.specs.MergeCommand.{MergeRequest}
 use Rattle.jj_program.specs.MergeViews.{IsWithin, request_in}
-use Rattle.jj_program.specs.Texts.{Text, texts_of}
 use Rattle.jj_program.proofs.FormRows.{odd_terms}
 use Rattle.jj_program.proofs.MergeRequests.{requests_more, within_more}
 use Rattle.jj_program.proofs.merge_command.MergeReadingReading.take.Goals as goal
@@ -49,6 +48,6 @@ returns c =
     let end : c.len-end.result ≡ length old + length terms = c.len-end.ensures ∙ c.extend_from_slice.new.self.ok.0 ∙ more in
     let request : Request = record { question = c.in_ok-question.question; start = c.len-start.result; end = c.len-end.result } in
     let stated : List MergeRequest = map (request_in old) requests in
-    ap (λ (r : Result (Question × Shape × List (List ℕ)) LineFault). result_and_then r (λ line. Ok (stated ++ record { question = line.0; terms = line.2 } ∷ []))) c.in_ok-question.ensures.parsed
+    ap (λ (r : Result (Question × Shape × List (List ℕ)) LineFault). result_and_then r (λ line. Ok (stated ++ (line.0, line.2) ∷ []))) c.in_ok-question.ensures.parsed
     ∙ ap Ok (sym (ap (λ l. map (request_in l) c.push.new.self.items) grown
     ∙ requests_more old terms requests c.push.new.self.items request c.args.self.now.within c.in_ok-push.ensures.items start end))

@@ -1,6 +1,6 @@
 -- The ids so far are those of the numbers before this index.
 use Rattle.std.proofs.Common.{◌≡◌, map, take}
-use Rattle.jj_program.specs.Numbering.{id_of}
+use Rattle.jj_program.specs.Parts.{id_of}
 use Rattle.jj_program.proofs.numbering.Numbering.ids_of.Given as goal
 
 abbrev pub invariant-loop-number : goal.invariant-loop-number

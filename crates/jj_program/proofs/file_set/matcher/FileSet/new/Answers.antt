@@ -3,9 +3,8 @@ use Rattle.std.specs.List.{zip}
 use Rattle.jj_paths.specs.Names.{path_of}
 use Rattle.jj_matchers.specs.PathLists.{HasSamePaths}
 use Rattle.jj_program.specs.declared.file_set.matcher.FileSet.TheVariants.{Files, Prefix, Globs}
-use Rattle.jj_program.specs.Matching.{IsAlike}
-use Rattle.jj_program.specs.WalkCommand.{named_set}
-use Rattle.jj_program.specs.Walked.{leaf_spec}
+use Rattle.jj_program.specs.SetCode.{IsAlike}
+use Rattle.jj_program.specs.WalkCommand.{named_set, leaf_spec}
 use Rattle.jj_program.proofs.AlikeMatchers.{files_alike, prefixes_alike, globs_alike}
 use Rattle.jj_program.proofs.file_set.matcher.FileSet.new.Goals as goal
 

@@ -1,7 +1,7 @@
 use Rattle.std.proofs.Common.{IfOk, subst, sym}
 use Rattle.jj_matchers.specs.MentionedNames.{MentionsOnly}
 use Rattle.jj_matchers.specs.Visits.{visit_spec}
-use Rattle.jj_program.specs.Walked.{leaf_spec}
+use Rattle.jj_program.specs.WalkCommand.{leaf_spec}
 use Rattle.jj_program.proofs.file_set.matcher.FileSetMatcher.visit.Goals as goal
 
 pub returns-in-Files-clause-names : goal.returns-in-Files-clause-names

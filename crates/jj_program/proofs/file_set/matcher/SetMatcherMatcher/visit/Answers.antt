@@ -5,8 +5,8 @@ use Rattle.jj_matchers.specs.VisitSpecs.{IsSound}
 use Rattle.jj_matchers.specs.MentionedNames.{MentionsOnly}
 use Rattle.jj_matchers.specs.declared.matchers.visits.Visit.{Visit}
 use Rattle.jj_matchers.specs.Visits.{visit_spec}
-use Rattle.jj_program.specs.Matching.{made_by}
-use Rattle.jj_program.specs.Walked.{spec_of}
+use Rattle.jj_program.specs.SetCode.{made_by}
+use Rattle.jj_program.specs.WalkCommand.{spec_of}
 use Rattle.jj_program.proofs.SetVisits.{visited}
 use Rattle.jj_program.proofs.file_set.matcher.SetMatcherMatcher.visit.Goals as goal
 

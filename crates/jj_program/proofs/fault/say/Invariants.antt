@@ -1,0 +1,11 @@
+-- The parts so far are written, and the sink has not failed.
+use Rattle.std.proofs.Common.{◌≡◌, take, false}
+use Rattle.std.specs.Io.KnownBytes.{Appends}
+use Rattle.jj_program.proofs.Said.{said}
+use Rattle.jj_program.proofs.fault.say.Given as goal
+
+abbrev pub invariant-loop-place : goal.invariant-loop-place
+invariant-loop-place g l = record {
+  so_far : Appends (g.E.Sink.contents l.initial.errors) (g.E.Sink.contents l.errors) (said (take l.place l.texts));
+  works : g.E.Sink.has_failed l.errors ≡ false;
+}

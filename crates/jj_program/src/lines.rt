@@ -1,0 +1,143 @@
+//! The line loop that all commands share: splits the input into lines and fields, and passes each
+//! nonempty line to the command. The format of output lines.
+ghost use Rattle.std.specs.Prelude.{◌≡◌, ◌==◌, ◌||◌, ◌+◌, ◌++◌, ◌<◌, ◌≤◌, get_or, length, map, false, List, ℕ, Result, Ok, IfOk, MatchResult, OnOk};
+ghost use Rattle.std.specs.List.{before_first, position_or_len};
+ghost use Rattle.jj_program.specs.declared.fault.LineFault.{LineFault};
+ghost use Rattle.jj_program.specs.Lines.{lines_of, line_text, fields_of, after_line, after_lines, IsFaultOf, Agrees, texts_of};
+
+use crate::fault::{Fault, StepFault};
+use memchr::memchr2;
+use std::alloc::{AllocError, Global};
+
+/// State of a command between two lines of its input.
+pub trait Reading<'t> {
+    /// The model of the state.
+    ghost State: { Type 0 };
+
+    ghost state: { Self → State };
+
+    /// The transition of the state at a line with these fields, or the line's fault.
+    ghost step: { State → List (List ℕ) → Result State LineFault };
+
+    /// Processes the fields of a line. After an error the value is not used again.
+    fn take(&mut self, alloc: Global, fields: &[&'t str]) -> Result<(), StepFault>
+        ensures { Agrees result (λ _. state self.new)
+            (step (state self.old) (texts_of fields.now)) };
+}
+
+// Processes a line with these fields, unless it is empty.
+fn take_line<'t, M: Reading<'t>>(
+    alloc: Global,
+    reading: &mut M,
+    line_number: usize,
+    line: &str,
+    fields: &[&'t str],
+) -> Result<(), Fault>
+    requires { texts_of fields.now ≡ fields_of line.now }
+    ensures { MatchResult result
+        (λ _. after_line M.step line_number (M.state reading.old) line.now
+        ≡ Ok (M.state reading.new))
+        (λ fault. IsFaultOf fault (after_line M.step line_number (M.state reading.old) line.now)) }
+{
+    if line.is_empty() {
+        return Ok(());
+    }
+    match reading.take(alloc, fields) {
+        Ok(()) => Ok(()),
+        Err(StepFault::Memory) => Err(Fault::Memory),
+        Err(StepFault::Line(kind)) => Err(Fault::Line {
+            line: line_number,
+            kind,
+        }),
+    }
+}
+
+/// Processes the lines of the input in order, and returns the first fault with its line number.
+pub fn take_lines<'t, M: Reading<'t>>(
+    alloc: Global,
+    reading: &mut M,
+    text: &'t str,
+) -> Result<(), Fault>
+    ensures { MatchResult result
+        (λ _. after_lines M.step 1 (M.state reading.old) (lines_of text.now)
+        ≡ Ok (M.state reading.new))
+        (λ fault. IsFaultOf fault (after_lines M.step 1 (M.state reading.old)
+        (lines_of text.now))) }
+{
+    // All lines share the list of fields, so that a line needs no allocation of its own.
+    let mut fields = Vec::new(alloc);
+    let mut rest = text;
+    let mut line_number = 1;
+    loop {
+        let end = split_line(&mut fields, rest)?;
+        take_line(alloc, reading, line_number, &rest[..end], &fields)?;
+        if end == rest.len() {
+            return Ok(());
+        }
+        rest = &rest[end + 1..];
+        line_number += 1;
+    }
+}
+
+// Replaces the contents of `fields` by the fields of the first line, and returns its length.
+fn split_line<'t>(fields: &mut Vec<&'t str>, text: &'t str) -> Result<usize, AllocError>
+    ensures fields { OnOk result (texts_of fields.new.items
+        ≡ fields_of (before_first (λ b. b == 10) text.now)) }
+    ensures length { IfOk result (λ length. length ≡ position_or_len (λ b. b == 10) text.now) }
+{
+    fields.clear();
+    let bytes = text.as_bytes();
+    let mut start = 0;
+    loop {
+        let end = start + field_len(&bytes[start..]);
+        fields.push(&text[start..end])?;
+        if end == bytes.len() || bytes[end] == b'\n' {
+            return Ok(end);
+        }
+        start = end + 1;
+    }
+}
+
+// Returns the number of bytes before the first TAB or LF. Most fields are short, so the first bytes
+// are tested one by one, and only the others in vectors. The number of the first is a constant, so
+// that their loop is unrolled.
+fn field_len(bytes: &[u8]) -> usize
+    ensures { result ≡ position_or_len (λ b. b == 9 || b == 10) bytes.now }
+{
+    if bytes.len() < 16 {
+        return field_len_from(bytes, 0);
+    }
+    for index in 0..16 {
+        if bytes[index] == b'\t' || bytes[index] == b'\n' {
+            return index;
+        }
+    }
+    field_len_from(bytes, 16)
+}
+
+// Does the same where none of the bytes before an index is a TAB or LF.
+fn field_len_from(bytes: &[u8], near: usize) -> usize
+    requires within { near ≤ length bytes.now }
+    requires none { (k : ℕ) → k < near → (get_or bytes.now k 0 == 9 || get_or bytes.now k 0 == 10)
+        ≡ false }
+    ensures { result ≡ position_or_len (λ b. b == 9 || b == 10) bytes.now }
+{
+    match memchr2(b'\t', b'\n', &bytes[near..]) {
+        Some(index) => near + index,
+        None => bytes.len(),
+    }
+}
+
+/// Appends a line of TAB-separated fields to the output, the name first.
+pub fn push_line(output: &mut Vec<u8>, name: &str, fields: &[&str]) -> Result<(), AllocError>
+    ensures { OnOk result (output.new.items ≡ output.old.items
+        ++ line_text name.now (map (λ field. field.now) fields.now)) }
+{
+    output.extend_from_slice(name.as_bytes())?;
+    for field in fields {
+        output.push(b'\t')?;
+        output.extend_from_slice(field.as_bytes())?;
+    }
+    output.push(b'\n')?;
+    Ok(())
+}
