@@ -28,6 +28,8 @@ pub(crate) enum Fault {
     Conflict,
     #[error("the history has a cycle")]
     Cycle,
+    #[error("the graph of the history has more than 500 columns")]
+    TooWide,
     #[error("out of memory")]
     Memory,
 }
@@ -91,6 +93,7 @@ impl From<LogError> for Fault {
     fn from(error: LogError) -> Self {
         match error {
             LogError::Memory => Fault::Memory,
+            LogError::TooWide(_) => Fault::TooWide,
             _ => Fault::Cycle,
         }
     }

@@ -9,5 +9,6 @@ mod GroupedRuns
 mod VisibleItems
 mod Settling
 mod DrawnRows
+mod WideRows
 mod Interning
 mod ReadLines

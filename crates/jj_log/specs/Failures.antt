@@ -1,14 +1,28 @@
 -- Errors of lists of commits.
--- Cited by contracts of public items: IsOrderError.
+-- Cited by contracts of public items: IsLayoutError, IsOrderError, IsRowsError.
 use Rattle.std.specs.Prelude.{List}
 use Rattle.jj_dag.specs.Graph.{StrictlyReaches}
+use Rattle.jj_log.specs.Columns.{IsTooWide}
+use Rattle.jj_log.specs.Logs.{IsLog, LogNode}
 use Rattle.jj_log.specs.Numbers.{parents_of}
 use Rattle.jj_log.specs.declared.commits.NumberedCommit.{NumberedCommit}
 use Rattle.jj_log.specs.declared.fault.LogError.{LogError}
-use Rattle.jj_log.specs.declared.fault.LogError.TheVariants.{Memory, RepeatedName, Cycle}
+use Rattle.jj_log.specs.declared.fault.LogError.TheVariants.{Memory, RepeatedName, Cycle, TooWide}
 
 -- the error of numbered commits: a cycle has the commit, or memory ran out
 abbrev pub IsOrderError : List NumberedCommit → LogError → Type 0
 IsOrderError commits Memory = Unit {0}
 IsOrderError commits (RepeatedName n) = ⊥
 IsOrderError commits (Cycle n) = StrictlyReaches (parents_of commits) n n
+IsOrderError commits (TooWide n) = ⊥
+
+-- the error of nodes that are laid out: a row is too wide, or memory ran out
+abbrev pub IsLayoutError : List LogNode → LogError → Type 0
+IsLayoutError nodes Memory = Unit {0}
+IsLayoutError nodes (TooWide n) = IsTooWide nodes n
+IsLayoutError nodes error = ⊥
+
+-- the error of the rows of numbered commits: that of their order, or a row of their log is too wide
+abbrev pub IsRowsError : List NumberedCommit → LogError → Type 0
+IsRowsError commits (TooWide n) = (nodes : List LogNode) × IsLog commits nodes × IsTooWide nodes n
+IsRowsError commits error = IsOrderError commits error

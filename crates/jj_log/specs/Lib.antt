@@ -1,8 +1,8 @@
 pub mod Numbers
 pub mod Edges
 pub mod Logs
-pub mod Failures
 pub mod Columns
+pub mod Failures
 pub mod Labels
 pub mod Drawing
 pub mod Orders

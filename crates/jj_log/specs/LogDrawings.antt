@@ -1,17 +1,16 @@
 -- The drawing of the log of commits that are known by names, and its errors.
 -- Cited by contracts of public items: IsDrawing, IsLogError.
 use Rattle.std.specs.Prelude.{ℕ, List, [], map}
-use Rattle.jj_dag.specs.Graph.{StrictlyReaches}
 use Rattle.jj_log.specs.Columns.{AreRows, node_of_row}
 use Rattle.jj_log.specs.Drawing.{AreDrawn}
+use Rattle.jj_log.specs.Failures.{IsRowsError}
 use Rattle.jj_log.specs.Labels.{label_of}
 use Rattle.jj_log.specs.Logs.{IsLog}
 use Rattle.jj_log.specs.Numbering.{AreNumbered, IsNumberingError}
-use Rattle.jj_log.specs.Numbers.{parents_of}
 use Rattle.jj_log.specs.declared.commits.Commit.{Commit}
 use Rattle.jj_log.specs.declared.commits.NumberedCommit.{NumberedCommit}
 use Rattle.jj_log.specs.declared.fault.LogError.{LogError}
-use Rattle.jj_log.specs.declared.fault.LogError.TheVariants.{Memory, RepeatedName, Cycle}
+use Rattle.jj_log.specs.declared.fault.LogError.TheVariants.{Memory, RepeatedName}
 use Rattle.jj_log.specs.declared.layout.Row.{Row}
 
 -- the commits were numbered by their names, their log was laid out in rows, and these were drawn
@@ -25,9 +24,9 @@ pub record IsDrawing (commits : List Commit) (drawing : List ℕ) : Type 0 where
   pub columns : AreRows [] rows last
   pub drawn : AreDrawn (label_of commits) rows drawing
 
--- two commits have one name, or a cycle of parents has the commit, or memory ran out
+-- memory ran out, or two commits have one name, or else the numbered commits have an error
 abbrev pub IsLogError : List Commit → LogError → Type 0
 IsLogError commits Memory = IsNumberingError commits Memory
 IsLogError commits (RepeatedName i) = IsNumberingError commits (RepeatedName i)
-IsLogError commits (Cycle n) = (numbered : List NumberedCommit) × AreNumbered commits numbered
-    × StrictlyReaches (parents_of numbered) n n
+IsLogError commits error = (numbered : List NumberedCommit) × AreNumbered commits numbered
+    × IsRowsError numbered error

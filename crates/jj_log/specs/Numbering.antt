@@ -11,7 +11,7 @@ use denote.Ref.{Bor}
 use Rattle.jj_log.specs.declared.commits.Commit.{Commit}
 use Rattle.jj_log.specs.declared.commits.NumberedCommit.{NumberedCommit}
 use Rattle.jj_log.specs.declared.fault.LogError.{LogError}
-use Rattle.jj_log.specs.declared.fault.LogError.TheVariants.{Memory, RepeatedName, Cycle}
+use Rattle.jj_log.specs.declared.fault.LogError.TheVariants.{Memory, RepeatedName}
 
 -- the names of the commits, in their order
 abbrev pub names_of : List Commit → List (List ℕ)
@@ -42,7 +42,7 @@ abbrev pub IsNumberingError : List Commit → LogError → Type 0
 IsNumberingError commits Memory = Unit {0}
 IsNumberingError commits (RepeatedName i) = (j : ℕ) × (i < j) × (name : List ℕ)
     × IsNumberOf (names_of commits) name i × IsNumberOf (names_of commits) name j
-IsNumberingError commits (Cycle n) = ⊥
+IsNumberingError commits error = ⊥
 
 -- the order of names in a map
 abbrev pub name_cmp : Bor (List ℕ) → Bor (List ℕ) → Ordering

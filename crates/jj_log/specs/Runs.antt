@@ -10,9 +10,9 @@ use Rattle.jj_log.specs.LogDrawings.{IsLogError}
 use Rattle.jj_log.specs.declared.commits.Commit.{Commit}
 use Rattle.jj_log.specs.declared.fault.Fault.{Fault}
 use Rattle.jj_log.specs.declared.fault.Fault.TheVariants.{ReadInput, NotUtf8, Memory, WriteOutput, Line}
-use Rattle.jj_log.specs.declared.fault.LineFault.TheVariants.{RepeatedName, Cycle}
+use Rattle.jj_log.specs.declared.fault.LineFault.TheVariants.{RepeatedName, Cycle, TooWide}
 use Rattle.jj_log.specs.declared.fault.LogError.{LogError}
-use Rattle.jj_log.specs.declared.fault.LogError.TheVariants.{RepeatedName as repeated_name, Cycle as cycle}
+use Rattle.jj_log.specs.declared.fault.LogError.TheVariants.{RepeatedName as repeated_name, Cycle as cycle, TooWide as too_wide}
 
 -- the source was read to its end, and the drawing of the commits of its lines was written
 abbrev pub WritesLog : Streams → Streams → Type 0
@@ -48,6 +48,7 @@ abbrev pub IsInputFault : List ℕ → Fault → Type 0
 IsInputFault input NotUtf8 = IsUtf8 input → ⊥
 IsInputFault input (Line number RepeatedName) = IsLogFault repeated_name input number
 IsInputFault input (Line number Cycle) = IsLogFault cycle input number
+IsInputFault input (Line number TooWide) = IsLogFault too_wide input number
 IsInputFault input fault = IsParseFault input fault
 
 -- the cause of a failed run: a fault of the input that was read, or memory ran out; failed reads

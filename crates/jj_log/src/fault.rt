@@ -3,6 +3,7 @@ ghost use Rattle.std.specs.Prelude.{◌≡◌};
 ghost use Rattle.jj_log.specs.declared.fault.Fault.{Fault};
 ghost use Rattle.jj_log.specs.declared.fault.LogError.{LogError};
 
+use crate::layout::MAX_COLUMNS;
 use itoa::Buffer;
 use std::alloc::{AllocError, AllocFailed};
 use std::error::Error;
@@ -19,6 +20,8 @@ pub enum LineFault {
     RepeatedName,
     /// The commit is among its own ancestors, or one of its ancestors is.
     Cycle,
+    /// The row of the commit needs more than `MAX_COLUMNS` columns.
+    TooWide,
 }
 
 /// An error of a list of commits. A number is the index of a commit.
@@ -30,6 +33,8 @@ pub enum LogError {
     RepeatedName(usize),
     /// This commit is its own ancestor.
     Cycle(usize),
+    /// The row of this commit needs more than `MAX_COLUMNS` columns.
+    TooWide(usize),
 }
 
 /// An error of a run of the program.
@@ -42,6 +47,9 @@ pub enum Fault {
     Line { line: usize, kind: LineFault },
 }
 
+// The message of `TooWide` names the number.
+const _: () = prove!(MAX_COLUMNS == 500);
+
 impl LineFault {
     fn as_str(self) -> &'static str {
         match self {
@@ -49,6 +57,7 @@ impl LineFault {
             LineFault::BadName => "bad name",
             LineFault::RepeatedName => "repeated name",
             LineFault::Cycle => "cycle of parents",
+            LineFault::TooWide => "more than 500 columns",
         }
     }
 }

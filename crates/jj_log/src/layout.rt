@@ -1,11 +1,17 @@
 //! Layout of a graph in rows of columns. A column leads to a commit that is not drawn yet.
-ghost use Rattle.std.specs.Prelude.{◌≡◌, ◌<◌, ◌∷◌, ◌++◌, [], ℕ, List, length, map, slice_index, IfOk, OnOk, MatchOption};
+ghost use Rattle.std.specs.Prelude.{◌≡◌, ◌⊎◌, ◌<◌, ◌∷◌, ◌++◌, [], ℕ, List, length, map, slice_index, IfErr, IfOk, OnOk, MatchOption};
 ghost use Rattle.std.specs.List.{Contains};
 ghost use Rattle.jj_walks.specs.PendingNodes.{listed_item};
-ghost use Rattle.jj_log.specs.Columns.{AreRows, IsRow, Settles, SettlesAll, node_of_row, opened};
+ghost use Rattle.jj_log.specs.Columns.{AreRows, IsRow, Settles, SettlesAll, node_of_row, opened, widest_line};
+ghost use Rattle.jj_log.specs.Failures.{IsLayoutError};
+ghost use Rattle.jj_log.specs.declared.fault.LogError.{LogError};
 
+use crate::fault::LogError;
 use jj_walks::graph::{GraphEdge, GraphNode};
 use std::alloc::{AllocError, Global};
+
+/// The most columns in a line of a drawing.
+pub const MAX_COLUMNS: usize = 500;
 
 /// How a column ends below a node. The columns to its right move to the left.
 #[derive(Clone, Copy, Debug, PartialEq, Eq)]
@@ -113,18 +119,26 @@ fn first_ends(
 }
 
 /// Replaces the column of a node by those of its edges, and returns the row of the node. Takes
-/// `O(c e)` for c columns and e edges. Fails if memory runs out.
+/// `O(c + MAX_COLUMNS (e + 1))` for c columns and e edges, and `O(c)` if it fails with `TooWide`:
+/// the edges of the node need more than `MAX_COLUMNS` columns. Fails with `Memory` if memory runs
+/// out.
 pub fn lay_out(
     alloc: Global,
     columns: &mut Vec<usize>,
     node: usize,
     edges: Vec<GraphEdge<usize>>,
-) -> Result<Row, AllocError>
+) -> Result<Row, LogError>
     ensures node { IfOk result (λ row. node_of_row row ≡ (node, edges.items)) }
     ensures row { IfOk result (λ row. IsRow columns.old.items row columns.new.items) }
+    ensures error { IfErr result (λ error. (error ≡ LogError.Memory)
+        ⊎ ((error ≡ LogError.TooWide node)
+        × (MAX_COLUMNS < widest_line columns.old.items (node, edges.items)))) }
 {
     let column = open(columns, node)?;
     let width = columns.len();
+    if width.saturating_add(edges.len().saturating_sub(1)) > MAX_COLUMNS {
+        return Err(LogError::TooWide(node));
+    }
     let mut right = Vec::from_slice(alloc, &columns[column + 1..])?;
     columns.truncate(column);
     let mut ends = first_ends(alloc, &edges, column)?;
@@ -139,11 +153,14 @@ pub fn lay_out(
     })
 }
 
-/// Lays out nodes in rows. Fails if memory runs out.
-pub fn rows(alloc: Global, nodes: Vec<GraphNode<usize>>) -> Result<Vec<Row>, AllocError>
+/// Lays out nodes in rows, in `O(MAX_COLUMNS (n + e))` for n nodes with e edges. Fails with
+/// `TooWide` of a node that needs more than `MAX_COLUMNS` columns below those before it, and with
+/// `Memory` if memory runs out.
+pub fn rows(alloc: Global, nodes: Vec<GraphNode<usize>>) -> Result<Vec<Row>, LogError>
     ensures nodes { IfOk result (λ rows. map node_of_row rows.items
         ≡ map listed_item nodes.items) }
     ensures columns { IfOk result (λ rows. (last : List ℕ) × AreRows [] rows.items last) }
+    ensures error { IfErr result (IsLayoutError (map listed_item nodes.items)) }
 {
     let mut columns = Vec::new(alloc);
     let mut rows = Vec::new(alloc);

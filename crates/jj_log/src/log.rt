@@ -2,7 +2,7 @@
 ghost use Rattle.std.specs.Prelude.{◌≡◌, [], ℕ, List, map, IfOk, IfErr, string_bytes};
 ghost use Rattle.jj_log.specs.Columns.{AreRows, node_of_row};
 ghost use Rattle.jj_log.specs.Drawing.{AreDrawn};
-ghost use Rattle.jj_log.specs.Failures.{IsOrderError};
+ghost use Rattle.jj_log.specs.Failures.{IsRowsError};
 ghost use Rattle.jj_log.specs.LogDrawings.{IsDrawing, IsLogError};
 ghost use Rattle.jj_log.specs.Logs.{IsLog};
 ghost use Rattle.jj_log.specs.Labels.{label_of};
@@ -18,15 +18,15 @@ use std::alloc::{AllocError, Global};
 
 /// Returns the log of these commits in rows: each visible commit once, with its edges, and before
 /// its ancestors. Branches are together, and the last commit of the list comes first where there is
-/// a choice. Fails with `Cycle` of a commit on a cycle of parents, and with `Memory` if memory runs
-/// out.
+/// a choice. Fails with `Cycle` of a commit on a cycle of parents, with `TooWide` of the first
+/// commit whose row needs more than `MAX_COLUMNS` columns, and with `Memory` if memory runs out.
 pub fn log_rows(alloc: Global, commits: &[NumberedCommit]) -> Result<Vec<Row>, LogError>
     ensures log { IfOk result (λ rows. IsLog commits.now (map node_of_row rows.items)) }
     ensures columns { IfOk result (λ rows. (last : List ℕ) × AreRows [] rows.items last) }
-    ensures error { IfErr result (IsOrderError commits.now) }
+    ensures error { IfErr result (IsRowsError commits.now) }
 {
     let nodes = log_nodes(alloc, commits)?;
-    Ok(rows(alloc, nodes)?)
+    rows(alloc, nodes)
 }
 
 fn label_at(commits: &[Commit], number: usize) -> &str
@@ -54,8 +54,8 @@ pub fn draw_rows(alloc: Global, rows: &[Row], commits: &[Commit]) -> Result<Stri
 }
 
 /// Draws the log of these commits. Fails with `RepeatedName` of an earlier commit if two commits
-/// have one name, with `Cycle` of a commit on a cycle of parents, and with `Memory` if memory runs
-/// out.
+/// have one name, with `Cycle` of a commit on a cycle of parents, with `TooWide` of the first
+/// commit whose row needs more than `MAX_COLUMNS` columns, and with `Memory` if memory runs out.
 pub fn draw_log(alloc: Global, commits: &[Commit]) -> Result<String, LogError>
     ensures drawing { IfOk result (λ drawing. IsDrawing commits.now (string_bytes drawing)) }
     ensures error { IfErr result (IsLogError commits.now) }

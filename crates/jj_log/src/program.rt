@@ -63,6 +63,10 @@ fn fault_of(error: LogError, lines: &[usize]) -> Fault
             line: line_at(lines, index),
             kind: LineFault::Cycle,
         },
+        LogError::TooWide(index) => Fault::Line {
+            line: line_at(lines, index),
+            kind: LineFault::TooWide,
+        },
     }
 }
 
