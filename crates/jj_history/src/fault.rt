@@ -46,12 +46,6 @@ impl<T: Drop> From<AllocFailed<T>> for Fault {
     }
 }
 
-impl From<OpenError> for Fault {
-    fn from(error: OpenError) -> Self {
-        Fault::Open(error)
-    }
-}
-
 impl From<sqlite::Error> for Fault {
     fn from(error: sqlite::Error) -> Self {
         Fault::Sqlite(error)

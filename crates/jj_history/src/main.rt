@@ -47,8 +47,10 @@ fn run_on_store<S: Alter + Drop>(
     conn: Connection<S>,
     command: &[String],
 ) -> Result<Option<String>, Fault> {
-    let mut store = open_store(alloc, conn)?;
-    run(alloc, &mut store, command)
+    match open_store(alloc, conn) {
+        Ok(mut store) => run(alloc, &mut store, command),
+        Err((error, _)) => Err(Fault::Open(error)),
+    }
 }
 
 fn run_on_file(rt: &HostRuntime, words: &[String]) -> Result<Option<String>, Fault> {

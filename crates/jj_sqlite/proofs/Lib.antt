@@ -1,1 +1,3 @@
+pub mod LogTable
 pub mod RowErrors
+pub mod Replayed

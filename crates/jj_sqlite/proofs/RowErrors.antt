@@ -1,28 +1,22 @@
 -- Reading rows: their entries, and the first error.
-use Rattle.std.proofs.Common.{◌≡◌, ◌∙◌, ◌⊎◌, inl, inr, ℕ, ◌+◌, ◌<◌, List, [], ◌∷◌, ◌++◌, length, take, get_or, slice_get, Some, sym, ap, subst}
+use Rattle.std.proofs.Common.{◌≡◌, ◌∙◌, ℕ, ◌+◌, ◌<◌, List, [], ◌∷◌, ◌++◌, length, take, get_or, slice_get, Some, sym, ap, subst}
 use Rattle.std.proofs.lemmas.List.{take_more}
 use Rattle.std.specs.List.{AllZip}
-use Rattle.sqlite.specs.declared.error.Error.{Error}
 use Rattle.sqlite.specs.Order.{Row}
 use Rattle.jj_mirror.specs.Entries.{LogEntryValue}
 use Rattle.jj_sqlite.specs.Rows.{IsGoodRow, IsRowError, IsReadError}
 use Rattle.jj_sqlite.specs.declared.error.OpenError.{OpenError}
 use Rattle.jj_sqlite.specs.declared.error.OpenError.TheVariants.{Memory, Sqlite, WrongObject, UnknownKind, Malformed, Backend}
 
--- an error of SQLite is no wrong object
-pub converted : (row : Row) (cause : Error) (e : OpenError) → (e ≡ Memory) ⊎ (e ≡ Sqlite cause) → IsRowError row e
-converted row cause e (inl is) = subst (IsRowError row) (sym is) tt
-converted row cause e (inr is) = subst (IsRowError row) (sym is) tt
-
 -- the error of the row at an index, after good rows
 pub read_error : (rows : List Row) (index : ℕ) (row : Row) (entries : List LogEntryValue) (e : OpenError) → slice_get rows index ≡ Some row
     → AllZip IsGoodRow (take index rows) entries → IsRowError row e → IsReadError rows e
 read_error rows index row entries Memory at good wrong = tt
-read_error rows index row entries (Sqlite cause) at good wrong = tt
+read_error rows index row entries (Sqlite cause) at good wrong = (index, row, entries, at, good, wrong)
 read_error rows index row entries (WrongObject kind id) at good wrong = (index, row, entries, at, good, wrong)
-read_error rows index row entries (UnknownKind id) at good wrong = tt
-read_error rows index row entries (Malformed kind id reason offset) at good wrong = tt
-read_error rows index row entries (Backend error) at good wrong = tt
+read_error rows index row entries (UnknownKind id) at good wrong = (index, row, entries, at, good, wrong)
+read_error rows index row entries (Malformed kind id reason offset) at good wrong = (index, row, entries, at, good, wrong)
+read_error rows index row entries (Backend error) at good wrong = (index, row, entries, at, good, wrong)
 
 push : (rows : List Row) (entries : List LogEntryValue) (row : Row) (entry : LogEntryValue) → AllZip IsGoodRow rows entries → IsGoodRow row entry
     → AllZip IsGoodRow (rows ++ row ∷ []) (entries ++ entry ∷ [])

@@ -1,3 +1,4 @@
+pub mod Tables
 pub mod Inserts
 pub mod Rows
 pub mod Opening

@@ -1,22 +1,29 @@
--- A backend that was opened from the log of a database.
--- Cited by contracts of public items: IsOpened, IsCreated, open_error.
-use Rattle.std.specs.Prelude.{◌≡◌, ℕ, List, [], Ok, codes}
+-- A backend that was opened from the log of a database, and the errors of opening one.
+-- Cited by contracts of public items: FailsToCreate, FailsToRead, IsCreated, IsOpenError, IsOpened,
+-- open_error, sqlite_error.
+use Rattle.std.specs.Prelude.{◌≡◌, ◌⊎◌, ℕ, List, [], Ok, Err}
 use Rattle.std.specs.List.{AllZip}
+use Rattle.sqlite.specs.declared.error.Error.{Error}
+use Rattle.sqlite.specs.declared.error.Error.TheVariants.{SqliteFailure}
+use Rattle.sqlite.specs.declared.error.ErrorCode.TheVariants.{OutOfMemory}
 use Rattle.sqlite.specs.Order.{Row}
 use Rattle.sqlite.specs.Store.{Ghosts}
-use Rattle.sqlite.specs.State.{Executes, Shown}
+use Rattle.sqlite.specs.State.{Executes, FailsToQuery, Shown}
 use Rattle.sqlite.specs.Held.{Held, state}
 use Rattle.jj_trees.specs.MemoryObjects.{MemoryBackendValue}
 use Rattle.jj_mirror.specs.Entries.{LogEntryValue}
-use Rattle.jj_replay.specs.Replays.{IsReplay}
+use Rattle.jj_replay.specs.Replays.{IsReplay, IsReplayError}
 use Rattle.jj_replay.specs.declared.error.ReplayError.{ReplayError}
 use Rattle.jj_replay.specs.declared.error.ReplayError.TheVariants as replay
-use Rattle.jj_sqlite.specs.Rows.{IsGoodRow, select_statement}
+use Rattle.jj_sqlite.specs.Tables.{create_statement, select_statement}
+use Rattle.jj_sqlite.specs.Rows.{IsGoodRow, IsReadError}
 use Rattle.jj_sqlite.specs.declared.error.OpenError.{OpenError}
-use Rattle.jj_sqlite.specs.declared.error.OpenError.TheVariants.{Memory, WrongObject, Malformed, Backend}
+use Rattle.jj_sqlite.specs.declared.error.OpenError.TheVariants.{Memory, Sqlite, WrongObject, Malformed, Backend}
 
-abbrev pub create_statement : List ℕ
-create_statement = codes "CREATE TABLE IF NOT EXISTS object_log (seq INTEGER PRIMARY KEY, kind TEXT NOT NULL, id BLOB NOT NULL, bytes BLOB NOT NULL) STRICT"
+-- the error of opening that an error of SQLite is
+abbrev pub sqlite_error : Error → OpenError
+sqlite_error (SqliteFailure OutOfMemory) = Memory
+sqlite_error cause = Sqlite cause
 
 -- the error of opening that an error of replaying is
 abbrev pub open_error : ReplayError → OpenError
@@ -25,19 +32,49 @@ open_error (replay.Malformed kind id reason offset) = Malformed kind id reason o
 open_error (replay.WrongObject kind id) = WrongObject kind id
 open_error (replay.Backend error) = Backend error
 
-module _ {S : Type 0} (g : Ghosts S) where
+module _ {S : Type 0} (g : Ghosts S) (old new : Held S) where
   -- the statement that creates the table, unless there is one, was executed
-  abbrev pub IsCreated : Held S → Held S → Type 0
-  IsCreated old new = (count : ℕ)
-      × Executes create_statement [] (state g old) (state g new) (Ok count)
+  abbrev pub IsCreated : Type 0
+  IsCreated = (count : ℕ) × Executes create_statement [] (state g old) (state g new) (Ok count)
 
-  -- The rows of the table are read from the database, each of them is an entry whose id is the
-  -- digest of its object, and the backend has the objects of these entries.
-  pub record IsOpened (old new : Held S) (backend : MemoryBackendValue) : Type 0 where
-    pub created : Held S
+  -- the statement that creates the table failed
+  abbrev pub FailsToCreate : OpenError → Type 0
+  FailsToCreate e = (cause : Error) × (e ≡ sqlite_error cause)
+      × Executes create_statement [] (state g old) (state g new) (Err cause)
+
+  -- the rows of the table cannot be read, or e is the error of the first row that has one
+  abbrev pub FailsToRead : OpenError → Type 0
+  FailsToRead e = ((cause : Error) × (e ≡ sqlite_error cause)
+      × FailsToQuery select_statement [] (state g old) (state g new) cause)
+      ⊎ ((rows : List Row) × Shown select_statement [] (state g old) (state g new) rows
+      × IsReadError rows e)
+
+  -- The rows of the table are read, each of them is an entry whose id is the digest of its object,
+  -- and the backend has the objects of these entries.
+  pub record IsReplayed (backend : MemoryBackendValue) : Type 0 where
     pub rows : List Row
     pub entries : List LogEntryValue
-    pub is_created : IsCreated old created
-    pub are_read : Shown select_statement [] (state g created) (state g new) rows
+    pub are_read : Shown select_statement [] (state g old) (state g new) rows
     pub are_good : AllZip IsGoodRow rows entries
     pub is_replay : IsReplay entries backend
+
+  -- the rows of the table are read, and e is the error of replaying their entries
+  pub record FailsToReplay (e : OpenError) : Type 0 where
+    pub rows : List Row
+    pub entries : List LogEntryValue
+    pub cause : ReplayError
+    pub are_read : Shown select_statement [] (state g old) (state g new) rows
+    pub are_good : AllZip IsGoodRow rows entries
+    pub is_cause : IsReplayError entries cause
+    pub is_error : e ≡ open_error cause
+
+module _ {S : Type 0} (g : Ghosts S) (old new : Held S) where
+  -- the table is there or created, and the backend has the objects of its rows' entries
+  abbrev pub IsOpened : MemoryBackendValue → Type 0
+  IsOpened backend =
+      (created : Held S) × IsCreated g old created × IsReplayed g created new backend
+
+  -- e is an error of creating the table, of reading its rows, or of replaying their entries
+  abbrev pub IsOpenError : OpenError → Type 0
+  IsOpenError e = FailsToCreate g old new e ⊎ ((created : Held S) × IsCreated g old created
+      × (FailsToRead g created new e ⊎ FailsToReplay g created new e))

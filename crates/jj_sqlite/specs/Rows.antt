@@ -1,15 +1,20 @@
 -- The rows of a log's table, and the entries that are read from them.
--- Cited by contracts of public items: IsGoodRow, IsReadError, select_statement.
-use Rattle.std.specs.Prelude.{◌≡◌, ⊤, ℕ, List, take, slice_get, Some, codes}
+-- Cited by contracts of public items: IsGoodRow, IsReadError.
+use Rattle.std.specs.Prelude.{◌≡◌, ◌≢◌, ◌⊎◌, ◌≤◌, ⊤, ℕ, List, length, take, slice_get, Some, IsUtf8}
 use Rattle.std.specs.List.{AllZip}
+use Rattle.sqlite.specs.declared.types.Value.{Value}
 use Rattle.sqlite.specs.declared.types.Value.TheVariants.{Text, Blob}
+use Rattle.sqlite.specs.declared.types.FromSqlError.{FromSqlError}
+use Rattle.sqlite.specs.declared.types.FromSqlError.TheVariants.{InvalidType}
+use Rattle.sqlite.specs.declared.error.Error.{Error}
+use Rattle.sqlite.specs.declared.error.Error.TheVariants.{InvalidColumnIndex}
 use Rattle.sqlite.specs.Order.{Row, column}
+use Rattle.sqlite.specs.Reading.{read_error}
+use Rattle.sqlite.specs.Values.{text_refusal}
 use Rattle.jj_mirror.specs.Entries.{LogEntryValue, digest_of, kind_name}
+use Rattle.jj_mirror.specs.declared.object_log.ObjectKind.{ObjectKind}
 use Rattle.jj_sqlite.specs.declared.error.OpenError.{OpenError}
-use Rattle.jj_sqlite.specs.declared.error.OpenError.TheVariants.{WrongObject}
-
-abbrev pub select_statement : List ℕ
-select_statement = codes "SELECT kind, id, bytes FROM object_log ORDER BY seq"
+use Rattle.jj_sqlite.specs.declared.error.OpenError.TheVariants.{Memory, Sqlite, WrongObject, UnknownKind, Malformed, Backend}
 
 -- the columns of the row are those of the entry
 abbrev pub IsEntryRow : Row → LogEntryValue → Type 0
@@ -24,16 +29,38 @@ HasDigest entry = digest_of entry.kind entry.bytes ≡ entry.id
 abbrev pub IsGoodRow : Row → LogEntryValue → Type 0
 IsGoodRow row entry = IsEntryRow row entry × HasDigest entry
 
--- a wrong object is the entry of this row, whose id is not the digest
+-- the value is a string in UTF-8
+abbrev pub IsString : Value → Type 0
+IsString value = (string : List ℕ) × (value ≡ Text string) × IsUtf8 string
+
+-- the value is a list of bytes
+abbrev pub IsBlob : Value → Type 0
+IsBlob value = (bytes : List ℕ) × (value ≡ Blob bytes)
+
+-- e names the column, which is missing or has a value that is not of its type
+abbrev pub IsColumnError : (Value → Type 0) → (Value → FromSqlError) → ℕ → Row → Error → Type 0
+IsColumnError IsTyped reason index row e = ((e ≡ InvalidColumnIndex index) × (length row ≤ index))
+    ⊎ ((e ≡ read_error index (column row index) (reason (column row index)))
+    × ¬ IsTyped (column row index))
+
+-- e is an error of the row: of one of its columns, of a kind that no object has, or of an id that
+-- is not the digest of the object
 abbrev pub IsRowError : Row → OpenError → Type 0
+IsRowError row Memory = ⊤
+IsRowError row (Sqlite e) = IsColumnError IsString text_refusal 0 row e
+    ⊎ IsColumnError IsBlob (λ _. InvalidType) 1 row e
+    ⊎ IsColumnError IsBlob (λ _. InvalidType) 2 row e
 IsRowError row (WrongObject kind id) =
     (entry : LogEntryValue) × IsEntryRow row entry × (kind ≡ entry.kind) × (id.items ≡ entry.id)
     × ¬ (HasDigest entry)
-IsRowError row _ = ⊤
+IsRowError row (UnknownKind id) = (name : List ℕ) × (column row 0 ≡ Text name)
+    × (column row 1 ≡ Blob id.items) × ((kind : ObjectKind) → kind_name kind ≢ name)
+IsRowError row (Malformed kind id reason offset) = ⊥
+IsRowError row (Backend error) = ⊥
 
--- a wrong object is that of the first row whose id is not the digest
+-- e is the error of the first row that has one
 abbrev pub IsReadError : List Row → OpenError → Type 0
-IsReadError rows (WrongObject kind id) =
+IsReadError rows Memory = ⊤
+IsReadError rows e =
     (index : ℕ) × (row : Row) × (entries : List LogEntryValue) × (slice_get rows index ≡ Some row)
-    × AllZip IsGoodRow (take index rows) entries × IsRowError row (WrongObject kind id)
-IsReadError rows _ = ⊤
+    × AllZip IsGoodRow (take index rows) entries × IsRowError row e

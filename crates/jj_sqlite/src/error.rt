@@ -12,7 +12,8 @@ use thiserror::Error;
 pub enum OpenError {
     #[error("out of memory")]
     Memory,
-    /// SQLite cannot open the file, or it cannot read or create the table of the log.
+    /// SQLite cannot read or create the table of the log, or a column of a row has a value that is
+    /// not of its type.
     #[error("{0}")]
     Sqlite(sqlite::Error),
     /// An entry whose id is not the digest of its object.
@@ -63,16 +64,15 @@ impl<T: Drop> From<AllocFailed<T>> for OpenError {
 }
 
 impl From<sqlite::Error> for OpenError {
-    ghost use Rattle.std.specs.Prelude.{◌≡◌, ◌⊎◌};
-    ghost use Rattle.jj_sqlite.specs.declared.error.OpenError.TheVariants.{Memory, Sqlite};
+    ghost use Rattle.std.specs.Prelude.{◌≡◌};
+    ghost use Rattle.jj_sqlite.specs.Opening.{sqlite_error};
 
-    ghost from_gives = { λ cause error. (error ≡ Memory) ⊎ (error ≡ Sqlite cause) };
+    ghost from_gives = { λ cause error. error ≡ sqlite_error cause };
 
     fn from(error: sqlite::Error) -> Self {
-        if error == sqlite::Error::SqliteFailure(ErrorCode::OutOfMemory) {
-            OpenError::Memory
-        } else {
-            OpenError::Sqlite(error)
+        match error {
+            sqlite::Error::SqliteFailure(ErrorCode::OutOfMemory) => OpenError::Memory,
+            error => OpenError::Sqlite(error),
         }
     }
 }

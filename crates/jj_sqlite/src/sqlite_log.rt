@@ -1,15 +1,18 @@
 //! A log of written objects in a table of an SQLite database.
-ghost use Rattle.std.specs.Prelude.{◌≡◌, ◌⊎◌, [], List, IfOk, IfErr, OnOk};
+ghost use Rattle.std.specs.Prelude.{◌≡◌, ◌⊎◌, [], List, IfOk, IfErr, OnOk, OnErr};
 ghost use Rattle.std.specs.List.{AllZip};
+ghost use Rattle.std.specs.List.Sorted.{IsPermutation};
 ghost use Rattle.sqlite.specs.Held.{state};
 ghost use Rattle.sqlite.specs.Order.{Row};
 ghost use Rattle.sqlite.specs.State.{HasCleanDisk, Executes, FailsToQuery, Shown};
 ghost use Rattle.jj_trees.specs.MemoryErrors.{IsOtherOf};
+ghost use Rattle.jj_mirror.specs.Entries.{LogEntryValue};
 ghost use Rattle.jj_mirror.specs.Logs.{Appends, Keeps};
-ghost use Rattle.jj_sqlite.specs.Inserts.{HasInserted, MayFailToInsert, entry_row, insert_statement};
+ghost use Rattle.jj_sqlite.specs.Tables.{create_statement, insert_statement, select_statement};
+ghost use Rattle.jj_sqlite.specs.Tables.{entry_row};
+ghost use Rattle.jj_sqlite.specs.Inserts.{ContainsEntries, MayFailToInsert, WasNewOrContains};
 ghost use Rattle.jj_sqlite.specs.Rows.{IsEntryRow, IsGoodRow, IsRowError, IsReadError};
-ghost use Rattle.jj_sqlite.specs.Rows.{select_statement};
-ghost use Rattle.jj_sqlite.specs.Opening.{IsCreated};
+ghost use Rattle.jj_sqlite.specs.Opening.{IsCreated, FailsToCreate, FailsToRead};
 
 use crate::error::OpenError;
 use jj_backend::backend::{BackendError, BackendResult};
@@ -19,64 +22,88 @@ use sqlite::{Alter, Connection, Error, ErrorCode, Row, params};
 use std::alloc::Global;
 
 /// A log in the table `object_log` of a database: a row for each entry, in the order of `seq`.
-#[derive(Drop)]
-pub struct SqliteLog<S: Alter + Drop> {
+pub struct SqliteLog<S: Alter> {
     conn: Connection<S>,
 }
 
-impl<S: Alter + Drop> SqliteLog<S> {
-    /// Opens the log of a database, and creates its table if there is none.
-    pub fn over(mut conn: Connection<S>) -> Result<Self, OpenError>
-        ensures { IfOk result (λ log. HasCleanDisk (state S.Store log.conn)
+impl<S: Alter + Drop> Drop for SqliteLog<S> {
+    fn drop(self) {
+        let SqliteLog { conn: _ } = self;
+    }
+}
+
+impl<S: Alter> SqliteLog<S> {
+    /// Opens the log of a database, and creates its table if there is none. An error returns the
+    /// connection too.
+    pub fn over(mut conn: Connection<S>) -> Result<Self, (OpenError, Connection<S>)>
+        ensures ok { IfOk result (λ log. HasCleanDisk (state S.Store log.conn)
             → IsCreated S.Store conn log.conn) }
+        ensures entries { IfOk result (λ log. (entries : List LogEntryValue)
+            → WasNewOrContains S.Store conn entries → ContainsEntries S.Store log.conn entries) }
+        // The disk has never returned other bytes than were written to it, if it has not now.
+        ensures clean { IfOk result (λ log. HasCleanDisk (state S.Store log.conn)
+            → HasCleanDisk (state S.Store conn)) }
+        ensures error { IfErr result (λ e. HasCleanDisk (state S.Store e.1)
+            → FailsToCreate S.Store conn e.1 e.0) }
     {
-        create_table(&mut conn)?;
-        Ok(SqliteLog { conn })
+        match create_table(&mut conn) {
+            Ok(_) => Ok(SqliteLog { conn }),
+            Err(cause) => Err((OpenError::from(cause), conn)),
+        }
     }
 
-    /// Reads the entries, the oldest first. Fails with `WrongObject` at the first entry whose id is
-    /// not the digest of its object.
+    /// Reads the entries. Fails with `WrongObject` at the first entry whose id is not the digest of
+    /// its object.
     pub fn read_entries(&mut self, alloc: Global) -> Result<Vec<LogEntry>, OpenError>
         ensures rows { HasCleanDisk (state S.Store self.new.conn) → IfOk result (λ entries.
             (rows : List Row) × AllZip IsGoodRow rows entries.items
             × Shown select_statement [] (state S.Store self.old.conn) (state S.Store self.new.conn)
             rows) }
-        // The disk has never returned other bytes than were written to it, if it has not now.
+        ensures entries { HasCleanDisk (state S.Store self.new.conn) → IfOk result (λ read.
+            (entries : List LogEntryValue) → ContainsEntries S.Store self.old.conn entries
+            → IsPermutation read.items entries) }
+        ensures kept { OnOk result (Keeps (ContainsEntries S.Store) self.old.conn self.new.conn) }
         ensures clean { HasCleanDisk (state S.Store self.new.conn)
             → HasCleanDisk (state S.Store self.old.conn) }
+        ensures error { HasCleanDisk (state S.Store self.new.conn)
+            → IfErr result (FailsToRead S.Store self.old.conn self.new.conn) }
     {
         let rows = select_rows(&mut self.conn)?;
         entries_from_rows(alloc, &rows)
     }
 
     /// Closes the log and returns its connection.
-    pub fn into_connection(self) -> Connection<S> {
+    pub fn into_connection(self) -> Connection<S>
+        ensures { result ≡ self.conn }
+    {
         let SqliteLog { conn } = self;
         conn
     }
 }
 
-fn create_table<S: Alter>(conn: &mut Connection<S>) -> Result<(), Error>
-    ensures { HasCleanDisk (state S.Store conn.new)
-        → OnOk result (IsCreated S.Store conn.old conn.new) }
+fn create_table<S: Alter>(conn: &mut Connection<S>) -> Result<usize, Error>
+    ensures runs { HasCleanDisk (state S.Store conn.new)
+        → Executes create_statement [] (state S.Store conn.old) (state S.Store conn.new) result }
+    ensures clean { HasCleanDisk (state S.Store conn.new) → HasCleanDisk (state S.Store conn.old) }
 {
     conn.execute(
-        "CREATE TABLE IF NOT EXISTS object_log (seq INTEGER PRIMARY KEY, kind TEXT NOT NULL, id BLOB NOT NULL, bytes BLOB NOT NULL) STRICT",
+        "CREATE TABLE IF NOT EXISTS object_log (seq INTEGER PRIMARY KEY, kind TEXT NOT NULL, \
+        id BLOB NOT NULL, bytes BLOB NOT NULL) STRICT",
         &[],
-    )?;
-    Ok(())
+    )
 }
 
 fn select_rows<S: Alter>(conn: &mut Connection<S>) -> Result<Vec<Row>, Error>
-    ensures clean { HasCleanDisk (state S.Store conn.new) → HasCleanDisk (state S.Store conn.old) }
     ensures rows { HasCleanDisk (state S.Store conn.new) → IfOk result (λ rows.
         Shown select_statement [] (state S.Store conn.old) (state S.Store conn.new) rows.items) }
+    ensures clean { HasCleanDisk (state S.Store conn.new) → HasCleanDisk (state S.Store conn.old) }
+    ensures error { HasCleanDisk (state S.Store conn.new) → IfErr result
+        (FailsToQuery select_statement [] (state S.Store conn.old) (state S.Store conn.new)) }
 {
     conn.query_all("SELECT kind, id, bytes FROM object_log ORDER BY seq", &[])
 }
 
 // Returns the entry of a row.
-#[tactic(auto, using(crate::proofs::RowErrors::converted))]
 fn entry_from_row(row: &Row) -> Result<LogEntry, OpenError>
     ensures ok { IfOk result (IsEntryRow row.now) }
     ensures wrong { IfErr result (IsRowError row.now) }
@@ -124,9 +151,10 @@ fn insert_entry<S: Alter>(
     id: &[u8],
     bytes: &[u8],
 ) -> Result<usize, Error>
-    ensures { HasCleanDisk (state S.Store conn.new) → Executes insert_statement
+    ensures runs { HasCleanDisk (state S.Store conn.new) → Executes insert_statement
         (entry_row (record { kind = kind; id = id.now; bytes = bytes.now }))
         (state S.Store conn.old) (state S.Store conn.new) result }
+    ensures clean { HasCleanDisk (state S.Store conn.new) → HasCleanDisk (state S.Store conn.old) }
 {
     conn.execute(
         "INSERT INTO object_log (kind, id, bytes) VALUES (?1, ?2, ?3)",
@@ -149,8 +177,8 @@ fn convert_error(alloc: Global, error: Error) -> BackendError
     }
 }
 
-impl<S: Alter + Drop> ObjectLog for SqliteLog<S> {
-    ghost contains = { λ log entries. HasInserted S.Store entries log.conn };
+impl<S: Alter> ObjectLog for SqliteLog<S> {
+    ghost contains = { λ log. ContainsEntries S.Store log.conn };
 
     ghost may_fail = { λ log. MayFailToInsert S.Store log.conn };
 

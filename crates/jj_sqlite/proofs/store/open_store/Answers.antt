@@ -1,19 +1,22 @@
-use Rattle.std.proofs.Common.{◌≡◌, List, subst}
-use Rattle.jj_mirror.specs.Entries.{LogEntryValue}
-use Rattle.jj_replay.specs.Replays.{IsReplay}
+use Rattle.std.proofs.Common.{inr, sym, subst}
+use Rattle.sqlite.specs.Held.{state}
+use Rattle.sqlite.specs.State.{HasCleanDisk}
+use Rattle.jj_sqlite.specs.Opening.{IsOpenError}
 use Rattle.jj_sqlite.proofs.store.open_store.Goals as goal
 
-pub returns : goal.returns
-returns g c =
-    let same : c.deref.result.now ≡ c.in_ok-entries.entries.items = cc (c.deref.ensures.value) in
-    rw c.new.ensures (λ clean.
-    let read = c.in_ok-entries.ensures.rows clean in
-    record {
-      created = c.in_ok-log.log.conn;
-      rows = read.0;
-      entries = c.in_ok-entries.entries.items;
-      is_created = c.in_ok-log.ensures (c.in_ok-entries.ensures.clean clean);
-      are_read = read.2;
-      are_good = read.1;
-      is_replay = subst (λ (l : List LogEntryValue). IsReplay l c.in_ok-backend.backend) same c.in_ok-backend.ensures.ok;
-    })
+pub returns-in-Ok-replay_log-clause-ok : goal.returns-in-Ok-replay_log-clause-ok
+returns-in-Ok-replay_log-clause-ok g c =
+    rw c.new.ensures (λ clean. (c.in-Ok.log.conn, c.in-Ok.ensures.ok (c.replay_log.ensures.clean clean), c.in-Ok-replay_log.ensures.ok clean))
+
+pub returns-in-Ok-replay_log-clause-entries : goal.returns-in-Ok-replay_log-clause-entries
+returns-in-Ok-replay_log-clause-entries g c =
+    rw c.new.ensures (λ clean entries had. c.in-Ok-replay_log.ensures.entries clean entries (c.in-Ok.ensures.entries entries had))
+
+pub returns-in-Ok-replay_log-clause-kept : goal.returns-in-Ok-replay_log-clause-kept
+returns-in-Ok-replay_log-clause-kept g c =
+    rw c.new.ensures (λ entries had. c.in-Ok-replay_log.ensures.kept entries (c.in-Ok.ensures.entries entries had))
+
+pub returns-in-Err-replay_log-clause-error : goal.returns-in-Err-replay_log-clause-error
+returns-in-Err-replay_log-clause-error g c =
+    subst (λ conn. HasCleanDisk (state g.S.Store conn) → IsOpenError g.S.Store c.args.conn conn c.in-Err-replay_log.error) (sym c.into_connection.ensures)
+    (λ clean. inr (c.in-Ok.log.conn, c.in-Ok.ensures.ok (c.replay_log.ensures.clean clean), c.in-Err-replay_log.ensures.error clean))

@@ -1,0 +1,368 @@
+-- The effect of the three statements of a log on the rows of its table.
+use Rattle.std.proofs.Common.{◌≡◌, ◌∙◌, ◌⊎◌, inl, inr, ℕ, pos, negsuc, List, [], ◌∷◌, ◌++◌, map, codes, Bool, true, false, cond, not, ◌&&◌, ◌==◌, if◌then◌else◌, length, slice_index_or, Some, None, Option, Ok, Err, Result, IfOk, OnOk, IsTrue, refl, sym, ap, subst, subst₂}
+use Rattle.std.specs.List.{AllZip, flat_map}
+use Rattle.std.proofs.lemmas.List.{map-append}
+use Rattle.std.specs.List.Sorted.{IsPermutation}
+use Rattle.std.specs.declared.cmp.Ordering.{Ordering}
+use Rattle.std.specs.declared.cmp.Ordering.TheVariants.{Less, Equal, Greater}
+use Rattle.std.proofs.lemmas.Bool.{cases_Bool}
+use Rattle.std.proofs.lemmas.List.Sorted.{IsPermutation-refl, IsPermutation-sym, IsPermutation-trans, IsPermutation-cons, IsPermutation-middle, IsPermutation-map, IsPermutation-to_front, IsPermutation-append_left}
+use Rattle.sqlite.specs.declared.types.Value.{Value}
+use Rattle.sqlite.specs.declared.types.Value.TheVariants.{Null, Int, Real, Text, Blob}
+use Rattle.sqlite.specs.Order.{Row, column, value_cmp}
+use Rattle.sqlite.specs.Term.{Term, lit, col}
+use Rattle.sqlite.specs.Ops.{unary}
+use Rattle.sqlite.specs.Query.{Query, inner, end, IsAnswer, output, Output}
+use Rattle.sqlite.specs.Program.{overlay}
+use Rattle.sqlite.specs.Schema.{Schema}
+use Rattle.sqlite.specs.Kind.TheVariants.{Integer}
+use Rattle.sqlite.specs.Source.TheVariants.{Values}
+use Rattle.sqlite.specs.Collation.TheVariants.{Binary}
+use Rattle.sqlite.specs.Command.{Command}
+use Rattle.sqlite.specs.Command.TheVariants.{Select, Insert, InsertOr, Update, Delete, CreateTable, CreateIndex, DropTable, DropIndex, Begin, Commit as Commits, Rollback, Savepoint, Release, RollbackTo, Nothing, CreateView, DropView, Rows}
+use Rattle.sqlite.specs.Compile.{table_defined_by}
+use Rattle.sqlite.specs.Edit.{edit_of, is_taken, next_rowid, put_all, are_fresh}
+use Rattle.sqlite.specs.Cast.{cast}
+use Rattle.sqlite.specs.Rowids.TheVariants.{Chosen}
+use Rattle.sqlite.specs.Change.{created, next_tree}
+use Rattle.sqlite.specs.Does.{Tally, Does, lacks_sequence}
+use Rattle.sqlite.specs.Rows.{Written}
+use Rattle.sqlite.specs.Tree.{Trees, rowid, put_row}
+use Rattle.sqlite_tied.specs.Compute.{everything}
+use Rattle.sqlite.specs.declared.error.Error.{Error}
+use Rattle.sqlite.specs.Listing.{understood, reads_listing}
+use Rattle.sqlite.specs.Effect.{Database}
+use Rattle.sqlite.specs.Clock.{timed}
+use Rattle.sqlite.specs.State.{State, mode_of, shows_rows, text_of, Writes, Runs, Executes, ExecutesIn, IsNotRun, IsRolledBack, IsUnchanged, Shown, ShowsRows}
+use Rattle.sqlite.proofs.Callers.{IsPlain, command_of, statement_of, runs_as, reads_as, one_step}
+use Rattle.jj_mirror.specs.Entries.{LogEntryValue, kind_name}
+use Rattle.jj_mirror.specs.declared.object_log.ObjectKind.{ObjectKind}
+use Rattle.jj_mirror.specs.declared.object_log.ObjectKind.TheVariants.{File, Symlink, Copy, Tree, Commit}
+use Rattle.jj_sqlite.specs.Tables.{log_table, log_schema, create_statement, insert_statement, select_statement, entry_row, logged_columns, HasEntries, IsNewOrHas}
+use Rattle.jj_sqlite.specs.Rows.{IsEntryRow, IsGoodRow}
+
+-- ---- the commands that the statements are, by computation
+
+abbrev terms : List Term
+terms = lit Null ∷ lit Null ∷ col 0 0 ∷ col 0 1 ∷ col 0 2 ∷ []
+
+abbrev query : Query
+query = record {
+  from = inner 0 end;
+  filter = [];
+  group = None;
+  project = col 1 2 ∷ col 1 3 ∷ col 1 4 ∷ [];
+  distinct = false;
+  collations = [];
+  order = (col 1 0, record { collation = Binary; descending = false }) ∷ [];
+  limit = lit (Int (negsuc 0));
+  offset = lit (Int (pos 0));
+}
+
+abbrev no_schema : Schema
+no_schema = record { tables = []; indexes = []; views = [] }
+
+create_is : (command_of (understood no_schema create_statement) ≡ CreateTable) × (statement_of create_statement (understood no_schema create_statement) ≡ create_statement) × (table_defined_by create_statement ≡ Ok log_table)
+unfolding understood everything
+create_is = (refl, refl, refl)
+
+create_plain : IsPlain (understood no_schema create_statement)
+unfolding understood everything
+create_plain = (refl, refl)
+
+again_is : command_of (understood log_schema create_statement) ≡ Nothing
+unfolding understood everything
+again_is = refl
+
+again_plain : IsPlain (understood log_schema create_statement)
+unfolding understood everything
+again_plain = (refl, refl)
+
+insert_is : command_of (understood log_schema insert_statement) ≡ Insert 0 (Values terms 5)
+unfolding understood everything
+insert_is = refl
+
+insert_plain : IsPlain (understood log_schema insert_statement)
+unfolding understood everything
+insert_plain = (refl, refl)
+
+select_is : (command_of (understood log_schema select_statement) ≡ Select (record { lets = []; body = query }) (codes "kind" ∷ codes "id" ∷ codes "bytes" ∷ [])) × (reads_listing log_schema select_statement ≡ false)
+unfolding understood everything
+select_is = (refl, refl)
+
+select_plain : IsPlain (understood log_schema select_statement)
+unfolding understood everything
+select_plain = (refl, refl)
+
+-- ---- a connection that is open after a statement was so before
+
+ran_open : (old new : State) (returning : Option _) (command : Command) (text : List ℕ) (params : Row) (count : ℕ) → Runs old new returning command text params count → IsTrue new.is_open
+    → IsTrue old.is_open
+ran_open old new returning (Select q names) text params count ran live = absurd ran
+ran_open old new returning (Insert at from) text params count ran live = ran.shown.was_open
+ran_open old new returning (InsertOr at how from clauses) text params count ran live = ran.shown.was_open
+ran_open old new returning (Update at q) text params count ran live = ran.shown.was_open
+ran_open old new returning (Delete at q) text params count ran live = ran.shown.was_open
+ran_open old new returning CreateTable text params count ran live = ran.shown.was_open
+ran_open old new returning (CreateIndex at) text params count ran live = ran.shown.was_open
+ran_open old new returning (DropTable at) text params count ran live = ran.shown.was_open
+ran_open old new returning (DropIndex at) text params count ran live = ran.shown.was_open
+ran_open old new returning Begin text params count ran live = ran.1.was_open
+ran_open old new returning Commits text params count ran live = ran.1.was_open
+ran_open old new returning Rollback text params count ran live = ran.1.was_open live
+ran_open old new returning (Savepoint name) text params count ran live = ran.0.0.was_open
+ran_open old new returning (Release name) text params count ran live = elim ran.2 [ inl ends ↦ ends.1.0.was_open | inr drops ↦ drops.1.0.was_open ]
+ran_open old new returning (RollbackTo name) text params count ran live = ran.2.2.was_open
+ran_open old new returning (Rows values width names) text params count ran live = ran.0.0.was_open
+ran_open old new returning Nothing text params count ran live = ran.0.0.was_open
+ran_open old new returning CreateView text params count ran live = ran.shown.was_open
+ran_open old new returning (DropView at) text params count ran live = ran.shown.was_open
+
+pub was_open : (sql : List ℕ) (params : Row) (old new : State) (count : ℕ) → Executes sql params old new (Ok count) → IsTrue new.is_open → IsTrue old.is_open
+unfolding ExecutesIn
+was_open sql params old new count h live = elim (cases_Bool (shows_rows false h.0)) [
+  | inl shows ↦ absurd (let e = (rw shows at h.2).0 in cc)
+  | inr runs ↦ ran_open old new h.0.returning h.0.command (text_of sql h.0) (timed params h.0.formats h.1.now) count (rw runs at h.2) live
+]
+
+showed_open : (old new : State) (sql : List ℕ) (c : _) (params : Row) (rows : List Row) (returning : Option _) → ShowsRows old new sql c params rows returning → IsTrue old.is_open
+showed_open old new sql c params rows None it = it.3.0.was_open
+showed_open old new sql c params rows (Some how) it = it.1.shown.was_open
+
+pub shown_open : (sql : List ℕ) (params : Row) (old new : State) (rows : List Row) → Shown sql params old new rows → IsTrue old.is_open
+unfolding Shown
+shown_open sql params old new rows h = showed_open old new sql h.0 (timed params h.0.formats h.1.now) rows h.0.returning h.2
+
+-- ---- a new row
+
+-- where no row has the rowid, it is added
+added : (new : Row) (rows : List Row) → is_taken rows new ≡ false → IsPermutation (put_row new rows) (new ∷ rows)
+added new [] fresh = IsPermutation-refl (new ∷ [])
+added new (r ∷ rows) fresh = go (value_cmp (rowid r) (rowid new)) refl (λ apart. added new rows apart)
+  where
+    go : (o : Ordering) → value_cmp (rowid r) (rowid new) ≡ o → (is_taken rows new ≡ false → IsPermutation (put_row new rows) (new ∷ rows)) → IsPermutation (put_row new (r ∷ rows)) (new ∷ r ∷ rows)
+    go Less is later = rw is (IsPermutation-trans (r ∷ put_row new rows) (r ∷ new ∷ rows) (new ∷ r ∷ rows) (IsPermutation-cons r (put_row new rows) (new ∷ rows) (later (rw is at fresh))) (IsPermutation-middle (r ∷ []) new rows))
+    go Equal is later = absurd (let e = rw is at fresh in cc)
+    go Greater is later = rw is (IsPermutation-refl (new ∷ r ∷ rows))
+
+-- its columns are beside those of the others
+more_rows : (new : Row) (rows shown : List Row) → is_taken rows new ≡ false → IsPermutation (map logged_columns rows) shown
+    → IsPermutation (map logged_columns (put_row new rows)) (shown ++ logged_columns new ∷ [])
+more_rows new rows shown fresh same =
+    let put = IsPermutation-map logged_columns (put_row new rows) (new ∷ rows) (added new rows fresh) in
+    let last = IsPermutation-sym (map logged_columns rows ++ logged_columns new ∷ []) (logged_columns new ∷ map logged_columns rows) (IsPermutation-to_front (map logged_columns rows) (logged_columns new)) in
+    let all = IsPermutation-append_left (logged_columns new ∷ []) (map logged_columns rows) shown same in
+    IsPermutation-trans (map logged_columns (put_row new rows)) (logged_columns new ∷ map logged_columns rows) (shown ++ logged_columns new ∷ []) put
+    (IsPermutation-trans (logged_columns new ∷ map logged_columns rows) (map logged_columns rows ++ logged_columns new ∷ []) (shown ++ logged_columns new ∷ []) last all)
+
+either : (b : Bool) (x : Value) → cond b x x ≡ x
+either true x = refl
+either false x = refl
+
+cast_null : cast Integer Null ≡ Null
+unfolding unary
+cast_null = either _ Null
+
+-- a part of a statement that ended with a value did not stop on the way
+went : {B E R : Type 0} {b : B} {Stops : E → Type 0} → ((stop : E) × Stops stop × (Ok b ≡ Err stop)) ⊎ R → R
+went (inl stopped) = absurd (let e = stopped.2 in cc)
+went (inr on) = on
+
+same_value : {B E : Type 0} {a b : B} → ◌≡◌ {A = Result B E} (Ok a) (Ok b) → a ≡ b
+same_value e = cc
+
+abbrev new_row : List Row → LogEntryValue → Row
+new_row rows entry = Int (next_rowid rows) ∷ Null ∷ entry_row entry
+
+-- an insertion adds the row of its entry
+inserted : (old new : State) (entry : LogEntryValue) (count : ℕ) (entries : List LogEntryValue) → HasEntries old entries → Executes insert_statement (entry_row entry) old new (Ok count)
+    → HasEntries new (entries ++ entry ∷ [])
+inserted old new entry count entries has h =
+    let params = entry_row entry in
+    let db = old.now.trees in
+    let command = Insert 0 (Values terms 5) in
+    let w = runs_as insert_statement params old new log_schema has.schema command insert_is insert_plain count h in
+    let text = statement_of insert_statement (understood log_schema insert_statement) in
+    let done = went (subst (λ s. Does old.step_limit (mode_of old) params (record old.now { schema = s }) text None command (Ok (w.tally, new.now))) has.schema w.changed) in
+    let now = ap (λ (p : Tally × Database). p.1) (same_value (went (went done.2).2).2) in
+    let given = went done.1 in
+    let written = went (went given.2).2 in
+    let counted = went written.2 in
+    let trees : done.0.trees ≡ written.0 = ap (λ (it : Written). it.trees) (same_value counted.2) ∙ same_value counted.1 in
+    let applied = one_step log_schema _ db written.0 (edit_of db log_table [] Chosen 0 given.0) refl written.1 in
+    let n = new_row (db 0) entry in
+    let news : (edit_of db log_table [] Chosen 0 given.0).news ≡ n ∷ [] = ap (λ all. (edit_of db log_table [] Chosen 0 all).news) given.1.1 ∙ rw cast_null refl in
+    let table : new.now.trees 0 ≡ put_row n (db 0) = ap (λ (d : Database). d.trees 0) now ∙ ap (λ (t : Trees). t 0) trees ∙ applied.rows ∙ ap (λ all. put_all (db 0) all) news in
+    let fresh : is_taken (db 0) n ≡ false = apart (is_taken (db 0) n) (subst (λ all. are_fresh (db 0) all ≡ true) news applied.fresh) in
+    let all = more_rows n (db 0) (map entry_row entries) fresh has.rows in
+    record {
+      schema = ap (λ (d : Database). d.schema) now;
+      rows = subst₂ (λ xs ys. IsPermutation (map logged_columns xs) ys) (sym table) (sym (map-append entry_row entries (entry ∷ []))) all;
+      committed = rw has.autocommit at w.shown.committed_is;
+      autocommit = w.shown.mode ∙ has.autocommit;
+    }
+  where
+    apart : (b : Bool) → (not b && true) ≡ true → b ≡ false
+    apart true is = absurd cc
+    apart false is = refl
+
+pub inserts : (old new : State) (entry : LogEntryValue) (count : ℕ) (entries : List LogEntryValue) → (IsTrue old.is_open → HasEntries old entries)
+    → Executes insert_statement (entry_row entry) old new (Ok count) → IsTrue new.is_open → HasEntries new (entries ++ entry ∷ [])
+inserts old new entry count entries has h live = inserted old new entry count entries (has (was_open insert_statement (entry_row entry) old new count h live)) h
+
+-- ---- statements that leave the rows
+
+unchanged : (old new : State) (entries : List LogEntryValue) → HasEntries old entries → IsUnchanged old new → HasEntries new entries
+unchanged old new entries has same = record {
+  schema = ap (λ (d : Database). d.schema) same.0.now_is ∙ has.schema;
+  rows = subst (λ (d : Database). IsPermutation (map logged_columns (d.trees 0)) (map entry_row entries)) (sym same.0.now_is) has.rows;
+  committed = same.0.committed_is ∙ has.committed ∙ sym same.0.now_is;
+  autocommit = same.0.mode ∙ has.autocommit;
+}
+
+rolled_back : (old new : State) (entries : List LogEntryValue) → HasEntries old entries → IsRolledBack old new → IsTrue new.is_open → HasEntries new entries
+rolled_back old new entries has back live =
+    let both = back.undone live in
+    let now = both.0 ∙ has.committed in
+    record {
+      schema = ap (λ (d : Database). d.schema) now ∙ has.schema;
+      rows = subst (λ (d : Database). IsPermutation (map logged_columns (d.trees 0)) (map entry_row entries)) (sym now) has.rows;
+      committed = both.1 ∙ sym both.0;
+      autocommit = back.autocommit;
+    }
+
+-- a failed statement changed nothing, or was rolled back
+failed : (sql : List ℕ) (params : Row) (old new : State) (e : Error) → Executes sql params old new (Err e) → IsUnchanged old new ⊎ IsRolledBack old new
+unfolding ExecutesIn IsNotRun
+failed sql params old new e (inl (inl not_run)) = inl not_run.1
+failed sql params old new e (inl (inr fails)) = inr fails.3
+failed sql params old new e (inr ran) = elim (cases_Bool (shows_rows false ran.0)) [
+  | inl shows ↦ inl (rw shows at ran.2).1
+  | inr runs ↦ elim (rw runs at ran.2) [
+    | inl refused ↦ inl refused.1
+    | inr fails ↦ inr fails.3
+  ]
+]
+
+pub keeps : (sql : List ℕ) (params : Row) (old new : State) (e : Error) (entries : List LogEntryValue) → (IsTrue old.is_open → HasEntries old entries) → Executes sql params old new (Err e)
+    → IsTrue new.is_open → HasEntries new entries
+keeps sql params old new e entries has h live = elim (failed sql params old new e h) [
+  | inl same ↦ unchanged old new entries (has same.0.was_open) same
+  | inr back ↦ rolled_back old new entries (has (back.was_open live)) back live
+]
+
+-- ---- the table is created
+
+created_table : (old new : State) (count : ℕ) (entries : List LogEntryValue) → IsNewOrHas old entries → Executes create_statement [] old new (Ok count) → HasEntries new entries
+created_table old new count entries (inl has) h =
+    unchanged old new entries has (runs_as create_statement [] old new log_schema has.schema Nothing again_is again_plain count h).0
+created_table old new count entries (inr none) h =
+    let has = none.0.0 in
+    let w = subst (λ t. Writes old new None CreateTable t [] count) create_is.1 (runs_as create_statement [] old new no_schema has CreateTable create_is.0 create_plain count h) in
+    let all = went w.changed in
+    let first = went all.1 in
+    let made = first.1 in
+    let both : Ok made.table ≡ Ok log_table = sym made.defined ∙ create_is.2 in
+    let same : made.table ≡ log_table = cc in
+    let schema : first.0.schema ≡ log_schema = made.is ∙ ap (λ s. created s made.table) has ∙ ap (created no_schema) same in
+    let plain : lacks_sequence first.0.schema ≡ false = ap lacks_sequence schema in
+    let now : new.now ≡ first.0 = ap (λ (p : Tally × Database). p.1) (same_value all.2) ∙ same_value (rw plain at first.2) in
+    let rows : new.now.trees 0 ≡ [] = ap (λ (d : Database). d.trees 0) now ∙ subst (λ s. first.0.trees (next_tree s) ≡ []) has made.empty in
+    record {
+      schema = ap (λ (d : Database). d.schema) now ∙ schema;
+      rows = subst₂ (λ (xs : List Row) (ys : List LogEntryValue). IsPermutation (map logged_columns xs) (map entry_row ys)) (sym rows) (sym none.1) (IsPermutation-refl []);
+      committed = rw none.0.1 at w.shown.committed_is;
+      autocommit = w.shown.mode ∙ none.0.1;
+    }
+
+pub creates : (old new : State) (count : ℕ) (entries : List LogEntryValue) → (IsTrue old.is_open → IsNewOrHas old entries) → Executes create_statement [] old new (Ok count) → IsTrue new.is_open
+    → HasEntries new entries
+creates old new count entries had h live = created_table old new count entries (had (was_open create_statement [] old new count h live)) h
+
+-- ---- the rows are read
+
+abbrev shown_output : Row → Output
+shown_output row = (rowid row ∷ [], logged_columns row)
+
+outputs : (rows : List Row) → map (output query) (flat_map (λ r. ([] ∷ r ∷ []) ∷ []) rows) ≡ map shown_output rows
+outputs [] = refl
+outputs (r ∷ rows) = ap (λ all. shown_output r ∷ all) (outputs rows)
+
+shows : (rows : List Row) → map (λ (o : Output). o.1) (map shown_output rows) ≡ map logged_columns rows
+shows [] = refl
+shows (r ∷ rows) = ap (λ all. logged_columns r ∷ all) (shows rows)
+
+-- the query shows the rows, in some order
+shows_all : (db : Trees) (shown : List Row) → IsAnswer query (overlay db []) [] shown → IsPermutation (map logged_columns (db 0)) shown
+shows_all db shown a =
+    let kept : a.kept ≡ map shown_output (db 0) = a.distinct ∙ ap (map (output query)) a.grouped ∙ outputs (db 0) in
+    let all : IsPermutation (map shown_output (db 0)) a.ordered = subst (λ k. IsPermutation k a.ordered) kept a.same in
+    subst₂ (λ xs ys. IsPermutation xs ys) (shows (db 0)) (sym a.shown) (IsPermutation-map (λ (o : Output). o.1) (map shown_output (db 0)) a.ordered all)
+
+shown_unchanged : (sql : List ℕ) (params : Row) (old new : State) (schema : Schema) → old.now.schema ≡ schema → IsPlain (understood schema sql) → (rows : List Row) → Shown sql params old new rows → IsUnchanged old new
+unfolding Shown
+shown_unchanged sql params old new schema has plain rows h =
+    let known = sym h.1.is ∙ ap (λ s. understood s sql) has in
+    let bare = subst IsPlain (sym known) plain in
+    (rw bare.0 at h.2).3
+
+-- the entry of a row, by its columns
+abbrev kind_of : List ℕ → ObjectKind
+kind_of name =
+    if length name == 7 then Symlink else (if length name == 6 then Commit else (if slice_index_or name 0 0 == 102 then File else (if slice_index_or name 0 0 == 99 then Copy else Tree)))
+
+abbrev bytes_of : Value → List ℕ
+bytes_of Null = []
+bytes_of (Int n) = []
+bytes_of (Real x) = []
+bytes_of (Text t) = t
+bytes_of (Blob b) = b
+
+abbrev entry_in : Row → LogEntryValue
+entry_in row = record { kind = kind_of (bytes_of (column row 0)); id = bytes_of (column row 1); bytes = bytes_of (column row 2) }
+
+kind_is : (kind : ObjectKind) → kind_of (kind_name kind) ≡ kind
+kind_is File = refl
+kind_is Symlink = refl
+kind_is Copy = refl
+kind_is Tree = refl
+kind_is Commit = refl
+
+entry_is : (row : Row) (entry : LogEntryValue) → IsEntryRow row entry → entry_in row ≡ entry
+entry_is row entry is i = record {
+  kind = (ap (λ v. kind_of (bytes_of v)) is.0 ∙ kind_is entry.kind) i;
+  id = ap bytes_of is.1 i;
+  bytes = ap bytes_of is.2 i;
+}
+
+entries_are : (rows : List Row) (entries : List LogEntryValue) → AllZip IsGoodRow rows entries → map entry_in rows ≡ entries
+entries_are [] [] all = refl
+entries_are [] (e ∷ entries) all = absurd all
+entries_are (r ∷ rows) [] all = absurd all
+entries_are (r ∷ rows) (e ∷ entries) all = λ i. entry_is r e all.0.0 i ∷ entries_are rows entries all.1 i
+
+same_entries : (entries : List LogEntryValue) → map entry_in (map entry_row entries) ≡ entries
+same_entries [] = refl
+same_entries (e ∷ entries) = λ i. entry_is (entry_row e) e (refl, refl, refl) i ∷ same_entries entries i
+
+pub keeps_reading : (old new : State) (rows : List Row) (entries : List LogEntryValue) → HasEntries old entries → Shown select_statement [] old new rows → HasEntries new entries
+keeps_reading old new rows entries has h = unchanged old new entries has (shown_unchanged select_statement [] old new log_schema has.schema select_plain rows h)
+
+-- the entries of the rows are those of the table
+pub reads : (old new : State) (rows : List Row) (read entries : List LogEntryValue) → HasEntries old entries → Shown select_statement [] old new rows → AllZip IsGoodRow rows read
+    → IsPermutation read entries
+reads old new rows read entries has h all =
+    let answer = (reads_as select_statement [] old new log_schema has.schema _ select_is.0 select_plain select_is.1 rows h).answer in
+    let shown = shows_all old.now.trees rows (answer Null) in
+    let same = IsPermutation-trans rows (map logged_columns (old.now.trees 0)) (map entry_row entries) (IsPermutation-sym (map logged_columns (old.now.trees 0)) rows shown) has.rows in
+    subst₂ (λ xs ys. IsPermutation xs ys) (entries_are rows read all) (same_entries entries) (IsPermutation-map entry_in rows (map entry_row entries) same)
+
+-- ---- results
+
+pub if_ok : {T E : Type 0} {P Q : T → Type 0} → ((value : T) → P value → Q value) → (r : Result T E) → IfOk r P → IfOk r Q
+if_ok f (Ok value) holds = f value holds
+if_ok f (Err e) holds = tt
+
+pub on_ok : {T E : Type 0} {P : Type 0} → (r : Result T E) → P → OnOk r P
+on_ok (Ok value) holds = holds
+on_ok (Err e) holds = tt
