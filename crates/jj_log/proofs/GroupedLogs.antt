@@ -46,12 +46,12 @@ and_intro true b h k = k
 and_intro false b h k = absurd cc
 
 module _ (commits : List NumberedCommit) where
-  visible_of : (n t : ℕ) (ty : GraphEdgeType) → IsOfType commits n ty t → is_in_graph ty ≡ true → is_visible commits t ≡ true
+  visible_of : (n t : ℕ) (ty : GraphEdgeType) → IsOfType commits (parents_of commits n) ty t → is_in_graph ty ≡ true → is_visible commits t ≡ true
   visible_of n t Missing k h = absurd cc
   visible_of n t Direct k h = k.0
   visible_of n t Indirect k h = k.0
 
-  in_graph_of : (n t : ℕ) (ty : GraphEdgeType) → IsOfType commits n ty t → is_visible commits t ≡ true → is_in_graph ty ≡ true
+  in_graph_of : (n t : ℕ) (ty : GraphEdgeType) → IsOfType commits (parents_of commits n) ty t → is_visible commits t ≡ true → is_in_graph ty ≡ true
   in_graph_of n t Missing k h = let less = visible_listed commits t h in absurd (omega (arith, less, k))
   in_graph_of n t Direct k h = refl
   in_graph_of n t Indirect k h = refl

@@ -5,7 +5,9 @@ use Rattle.std.proofs.Math.Seq.{drop-cons}
 use Rattle.std.proofs.lemmas.List.{drop_all}
 use Rattle.std.proofs.lemmas.List.Elements.{Contains-get_or, Contains-append_left, Contains-append_right, Contains-append_cases}
 use Rattle.jj_walks.proofs.Expanding.{at_first, first_or_rest}
-use Rattle.jj_log.specs.Edges.{AreTargets, LeadsTo, parent, over}
+use Rattle.jj_walks.specs.declared.graph.GraphEdgeType.{GraphEdgeType}
+use Rattle.jj_walks.specs.declared.graph.GraphEdgeType.TheVariants.{Missing, Direct, Indirect}
+use Rattle.jj_log.specs.Edges.{AreTargets, IsOfType, LeadsTo, parent, over}
 use Rattle.jj_log.specs.Numbers.{is_elided, parents_of}
 use Rattle.jj_log.specs.Targets.{AddsNew, AddsVia, HasVia, IsVia, targets_at}
 use Rattle.jj_log.specs.declared.commits.NumberedCommit.{NumberedCommit}
@@ -67,6 +69,16 @@ module _ (commits : List NumberedCommit) where
     (λ h. inr (elided, (k.all t).0 h)),
     ⊎_elim (λ (kept, same). absurd (true≢false (sym elided ∙ kept))) (λ (e, more). (k.all t).1 more),
   )
+
+-- the type of an edge, by other lists of the same parents
+pub same_type : (commits : List NumberedCommit) (ps qs : List ℕ) (ty : GraphEdgeType) (t : ℕ) → ((p : ℕ) → Contains ps p ↔ Contains qs p) → IsOfType commits ps ty t → IsOfType commits qs ty t
+same_type commits ps qs Missing t same h = h
+same_type commits ps qs Direct t same (visible, at) = (visible, (same t).0 at)
+same_type commits ps qs Indirect t same (visible, none) = (visible, λ at. none ((same t).1 at))
+
+-- the members of a set that these were inserted into when it was empty
+pub just_added : (added new : List ℕ) → AddsNew added [] new → (t : ℕ) → Contains new t ↔ Contains added t
+just_added added new more t = ((λ h. ⊎_elim nothing (λ at. at) ((more.all t).0 h)), λ at. (more.all t).1 (inr at))
 
 -- a target is not left out
 pub kept : (commits : List NumberedCommit) (t n : ℕ) → LeadsTo commits t n → is_elided commits t ≡ false

@@ -16,20 +16,21 @@ pub data LeadsTo (commits : List NumberedCommit) (target : ℕ) : ℕ → Type 0
   over : {n m : ℕ} → Contains (parents_of commits n) m → is_elided commits m ≡ true
       → LeadsTo commits target m → LeadsTo commits target n
 
+-- missing: no commit of the list; direct: a visible commit that is one of the parents; indirect: a
+-- visible one that is not
+abbrev pub IsOfType : List NumberedCommit → (parents : List ℕ) → GraphEdgeType → ℕ → Type 0
+IsOfType commits parents Missing t = length commits ≤ t
+IsOfType commits parents Direct t = (is_visible commits t ≡ true) × Contains parents t
+IsOfType commits parents Indirect t = (is_visible commits t ≡ true) × (Contains parents t → ⊥)
+
 module _ (commits : List NumberedCommit) (n : ℕ) where
   -- exactly the targets that the commit leads to, each once
   pub record AreTargets (targets : List ℕ) : Type 0 where
     pub all : (t : ℕ) → Contains targets t ↔ LeadsTo commits t n
     pub once : IsDistinct eqb targets
 
-  -- missing: no commit of the list; direct: a parent that is visible; indirect: a commit that is
-  -- visible and no parent
-  abbrev pub IsOfType : GraphEdgeType → ℕ → Type 0
-  IsOfType Missing t = length commits ≤ t
-  IsOfType Direct t = (is_visible commits t ≡ true) × Contains (parents_of commits n) t
-  IsOfType Indirect t = (is_visible commits t ≡ true) × (Contains (parents_of commits n) t → ⊥)
-
   -- an edge to each target of the commit
   pub record AreEdges (edges : List (GraphEdge ℕ)) : Type 0 where
     pub targets : AreTargets (map (λ edge. edge.target) edges)
-    pub types : (edge : GraphEdge ℕ) → Contains edges edge → IsOfType edge.edge_type edge.target
+    pub types : (edge : GraphEdge ℕ) → Contains edges edge
+        → IsOfType commits (parents_of commits n) edge.edge_type edge.target

@@ -13,6 +13,7 @@ use crate::commits::{NumberedCommit, is_visible_at};
 use crate::fault::LogError;
 use crate::ordering::order_commits;
 use crate::targets::{all_targets, edges_of, list_at};
+use jj_dag::dense_set::DenseSet;
 use jj_walks::graph::{GraphNode, GroupedGraphError, GroupedNodes, TopoGroupedGraph};
 use std::alloc::{AllocError, Global};
 use std::convert::Infallible;
@@ -20,11 +21,12 @@ use std::hash::Hash;
 
 type Items = Vec<Result<GraphNode<usize>, Infallible>>;
 
-// Appends a commit with its edges, unless it is elided.
+// Appends a commit with its edges, unless it is elided. Overwrites `parents`.
 fn push_visible(
     alloc: Global,
     commits: &[NumberedCommit],
     targets: &[Vec<usize>],
+    parents: &mut DenseSet,
     items: &mut Items,
     number: usize,
 ) -> Result<(), AllocError>
@@ -35,7 +37,7 @@ fn push_visible(
     if !is_visible_at(commits, number) {
         return Ok(());
     }
-    let edges = edges_of(alloc, commits, number, list_at(targets, number))?;
+    let edges = edges_of(alloc, commits, parents, number, list_at(targets, number))?;
     items.push(Ok((number, edges)))?;
     Ok(())
 }
@@ -51,9 +53,10 @@ fn visible_items(
     ensures { IfOk result (λ items. AreVisibleItems commits.now order.now items.items) }
 {
     let targets = all_targets(alloc, commits, order)?;
+    let mut parents = DenseSet::new(alloc);
     let mut items = Vec::new(alloc);
     for number in order {
-        push_visible(alloc, commits, &targets, &mut items, *number)?;
+        push_visible(alloc, commits, &targets, &mut parents, &mut items, *number)?;
     }
     Ok(items)
 }
@@ -109,9 +112,9 @@ fn group(
 
 /// Returns the visible commits with their edges, each before its ancestors, and branches together:
 /// a commit is followed by the last of the targets of its edges whose children all came before, if
-/// one is. Takes `O(n log n + e)` for n commits with e parents and, where commits are elided, time
-/// for the targets of each of those. Fails with `Cycle` of a commit on a cycle of parents, and with
-/// `Memory` if memory runs out.
+/// one is. Takes `O(n log n + e (1 + t))` for n commits with e parents, if no elided commit has
+/// more than t targets. Fails with `Cycle` of a commit on a cycle of parents, and with `Memory` if
+/// memory runs out.
 pub fn log_nodes(
     alloc: Global,
     commits: &[NumberedCommit],

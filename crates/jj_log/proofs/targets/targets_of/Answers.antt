@@ -1,5 +1,7 @@
-use Rattle.std.proofs.Common.{◌+◌, ℕ, List, [], take, get_or, length, ◌≤◌, sym, subst}
+use Rattle.std.proofs.Common.{rules, ◌∙◌, ◌+◌, ℕ, List, [], take, get_or, length, ◌≤◌, sym, subst}
 use Rattle.std.proofs.lemmas.List.{take_all, take_more}
+use Rattle.std.proofs.lemmas.Result.{IfOk-weaker}
+use Rattle.jj_log.specs.Edges.{AreTargets}
 use Rattle.jj_log.specs.Numbers.{parents_of}
 use Rattle.jj_log.specs.Targets.{HasVia}
 use Rattle.std.proofs.lemmas.List.Elements.{Contains-get_or}
@@ -8,10 +10,10 @@ use Rattle.jj_log.proofs.NearTargets.{elided_listed, targets_via, via_more, via_
 use Rattle.jj_log.proofs.targets.targets_of.Goals as goal
 
 pub loop-parent-init : goal.loop-parent-init
-loop-parent-init c = subst (HasVia c.args.commits.now []) (sym c.new-targets.ensures.items) (via_none c.args.commits.now)
+loop-parent-init c = subst (HasVia c.args.commits.now []) (sym c.clear.ensures) (via_none c.args.commits.now)
 
-pub push_via-requires : goal.push_via-requires
-push_via-requires c =
+pub insert_via-requires : goal.insert_via-requires
+insert_via-requires c =
     λ elided.
     let raw = c.parents_at-parent-items.result.now in
     let p : ℕ = get_or raw c.loop-parent.parent-index 0 in
@@ -24,13 +26,15 @@ loop-parent-preserved c =
     let same = c.parents_at-parent-items.ensures in
     let raw = c.parents_at-parent-items.result.now in
     let i = c.loop-parent.parent-index in
-    subst (λ (l : List ℕ). HasVia commits (take (i + 1) l) c.push_via.new.targets.items) same
-    (via_more commits (take (i + 1) raw) (take i raw) c.loop-parent.targets.items c.push_via.new.targets.items (get_or raw i 0) (take_more raw i 0 c.loop-parent-test.true)
-    (subst (λ (l : List ℕ). HasVia commits (take i l) c.loop-parent.targets.items) (sym same) c.loop-parent.invariant) c.in_ok-push_via.ensures)
+    subst (λ (l : List ℕ). HasVia commits (take (i + 1) l) c.insert_via.new.targets) same
+    (via_more commits (take (i + 1) raw) (take i raw) c.loop-parent.found c.insert_via.new.targets (get_or raw i 0) (take_more raw i 0 c.loop-parent-test.true)
+    (subst (λ (l : List ℕ). HasVia commits (take i l) c.loop-parent.found) (sym same) c.loop-parent.invariant) c.in_ok-insert_via.ensures)
 
 pub returns : goal.returns
 returns c =
     let commits = c.args.commits.now in
     let all = parents_of commits c.args.number in
-    targets_via commits c.args.number c.loop-parent.targets.items
-    (subst (λ (l : List ℕ). HasVia commits l c.loop-parent.targets.items) (take_all c.loop-parent.parent-index all (subst (λ (l : List ℕ). length l ≤ c.loop-parent.parent-index) c.parents_at-parent-items.ensures c.loop-parent-test.false)) c.loop-parent.invariant)
+    let found = targets_via commits c.args.number c.loop-parent.found
+    (subst (λ (l : List ℕ). HasVia commits l c.loop-parent.found) (take_all c.loop-parent.parent-index all (subst (λ (l : List ℕ). length l ≤ c.loop-parent.parent-index) c.parents_at-parent-items.ensures c.loop-parent-test.false)) c.loop-parent.invariant) in
+    IfOk-weaker c.to_vec.result _ (λ targets. AreTargets commits c.args.number targets.items) (λ targets clones. subst (AreTargets commits c.args.number) (sym (clones (search rules) ∙ c.as_slice.ensures)) found)
+    c.to_vec.ensures.items_if_clones_equal
