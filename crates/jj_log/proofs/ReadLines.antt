@@ -1,17 +1,16 @@
 -- Reading the lines of the input.
 use Rattle.std.proofs.Common.{◌≡◌, ◌≢◌, ◌∙◌, ℕ, ◌+◌, ◌<◌, ◌==◌, Bool, true, false, not, List, [], ◌∷◌, ◌++◌, Option, Some, None, Bor, get_or, length, length-append, refl, ap, arith, append_assoc, filter, map, reverse, sym, subst, MatchOption, String, Vec, Global, string_bytes}
-use Rattle.std.specs.List.{AllZip, Contains}
+use Rattle.std.specs.List.{All, AllZip}
 use Rattle.std.proofs.lemmas.Bool.{ne_eqb}
 use Rattle.std.proofs.lemmas.Bool.Decides.{Decides-eqb}
-use Rattle.std.proofs.lemmas.List.Elements.{All-from_get_or, All-get_or, Contains-append_left, Contains-append_right, filter-append}
+use Rattle.std.proofs.lemmas.List.Elements.{All-append, All-cons, All-from_get_or, All-get_or, All-nil, filter-append}
 use Rattle.std.proofs.lemmas.List.{append-nil, map-append, reverse-reverse}
 use Rattle.std.proofs.lemmas.List.Splits.{slice_split_at, slice_split_none}
 use Rattle.std.proofs.lemmas.Str.Pattern.{IsSplitOnceResult, split_parts}
 use Rattle.jj_log.specs.declared.commits.Commit.{Commit}
 use Rattle.jj_log.specs.declared.fault.Fault.{Fault}
 use Rattle.jj_log.specs.declared.fault.Fault.TheVariants.{ReadInput, NotUtf8, Memory, WriteOutput, Line}
-use Rattle.jj_walks.proofs.Expanding.{at_first}
-use Rattle.jj_log.specs.InputLines.{AreCommitsOf, Lacks, IsCutAt, IsCommitLine, IsFaultOf, IsLineFault, IsName, IsParseFault, is_nonempty, parts_of, words_of, one_word, numbered_line, numbered_lines, commit_lines}
+use Rattle.jj_log.specs.InputLines.{AreCommitsOf, HasCommit, Lacks, IsCutAt, IsCommitLine, IsFaultOf, IsLineFault, IsName, IsParseFault, is_nonempty, parts_of, words_of, one_word, numbered_line, numbered_lines, commit_lines}
 
 -- 1. Strings cut at a byte.
 
@@ -135,24 +134,33 @@ all_parsed input rest number old new last before after numbers so plain (added, 
 
 -- 5. Faults.
 
-faults_more : (part whole : List (ℕ × List ℕ)) → ((x : ℕ × List ℕ) → Contains part x → Contains whole x) → (fault : Fault) → IsFaultOf part fault → IsFaultOf whole fault
-faults_more part whole more Memory is = tt
-faults_more part whole more (Line number kind) (line, has, bad) = (line, more (number, line) has, bad)
-faults_more part whole more ReadInput is = absurd is
-faults_more part whole more NotUtf8 is = absurd is
-faults_more part whole more WriteOutput is = absurd is
+have_commits : (lines : List (ℕ × List ℕ)) (commits : List Commit) → AllZip IsCommitLine (map (λ l. l.1) lines) commits → All HasCommit lines
+have_commits [] commits all = All-nil HasCommit
+have_commits (l ∷ lines) [] all = absurd all
+have_commits (l ∷ lines) (commit ∷ commits) (first, rest) = All-cons HasCommit l lines (commit, first) (have_commits lines commits rest)
+
+faults_more : (front part later whole : List (ℕ × List ℕ)) → whole ≡ front ++ (part ++ later) → All HasCommit front → (fault : Fault) → IsFaultOf part fault → IsFaultOf whole fault
+faults_more front part later whole is good Memory fails = tt
+faults_more front part later whole is good (Line number kind) (before, line, after, split, all, bad) = (
+  front ++ before,
+  line,
+  after ++ later,
+  is ∙ ap (λ l. front ++ (l ++ later)) split ∙ ap (λ l. front ++ l) (append_assoc before ((number, line) ∷ after) later) ∙ sym (append_assoc front before ((number, line) ∷ (after ++ later))),
+  All-append HasCommit front before good all,
+  bad,
+)
+faults_more front part later whole is good ReadInput fails = absurd fails
+faults_more front part later whole is good NotUtf8 fails = absurd fails
+faults_more front part later whole is good WriteOutput fails = absurd fails
 
 pub fault_of_line : (input rest : List ℕ) (number : ℕ) (old : List Commit) (before line : List ℕ) (left : List (ℕ × List ℕ)) → IsParsing input rest number old before
     → numbered_lines number (parts_of 10 rest) ≡ numbered_line number line ++ left → (fault : Fault) → IsFaultOf (numbered_line number line) fault → IsParseFault input fault
 fault_of_line input rest number old before line left so next fault is =
-    faults_more (numbered_line number line) (commit_lines input) (λ x has.
-    subst (λ l. Contains l x) so.split
-    (Contains-append_right so.parsed (numbered_lines number (parts_of 10 rest)) x
-    (subst (λ l. Contains l x) (sym next) (Contains-append_left (numbered_line number line) left x has)))) fault is
+    faults_more so.parsed (numbered_line number line) left (commit_lines input) (sym so.split ∙ ap (λ l. so.parsed ++ l) next) (have_commits so.parsed old so.lines) fault is
 
 pub line_fault : (number : ℕ) (line : List ℕ) (fault : Fault) → (length line ≡ 0 → ⊥) → IsLineFault number line fault → IsFaultOf (numbered_line number line) fault
 line_fault number line Memory other is = tt
-line_fault number line (Line at kind) other (same, bad) = (line, rw (one_line number line other, same) (at_first (number, line) []), bad)
+line_fault number line (Line at kind) other (same, bad) = ([], line, [], rw (one_line number line other, same) refl, All-nil HasCommit, bad)
 line_fault number line ReadInput other is = absurd is
 line_fault number line NotUtf8 other is = absurd is
 line_fault number line WriteOutput other is = absurd is

@@ -1,7 +1,7 @@
 -- The lines of the input: commits with the names of their parents.
 -- Cited by contracts of public items: AreCommitsOf, IsParseFault.
 use Rattle.std.specs.Prelude.{◌≡◌, ℕ, ◌+◌, ◌==◌, Bool, true, false, not, List, [], ◌∷◌, ◌++◌}
-use Rattle.std.specs.Prelude.{All, Contains, MatchOption, filter, map, reverse, length, string_bytes}
+use Rattle.std.specs.Prelude.{All, MatchOption, filter, map, reverse, length, string_bytes}
 use Rattle.std.specs.List.{AllZip, slice_split}
 use Rattle.jj_log.specs.LogDrawings.{IsDrawing}
 use Rattle.jj_log.specs.declared.commits.Commit.{Commit}
@@ -80,14 +80,19 @@ pub record AreCommitsOf (input : List ℕ) (commits : List Commit) (numbers : Li
   pub lines : AllZip IsCommitLine (map (λ l. l.1) (commit_lines input)) (reverse commits)
   pub numbered : reverse numbers ≡ map (λ l. l.0) (commit_lines input)
 
--- the fault is that of one of these lines, or memory ran out
+-- a commit is on the line
+abbrev pub HasCommit : ℕ × List ℕ → Type 0
+HasCommit line = (commit : Commit) × IsCommitLine line.1 commit
+
+-- the fault is that of one of these lines, and those before it have commits; or memory ran out
 abbrev pub IsFaultOf : List (ℕ × List ℕ) → Fault → Type 0
 IsFaultOf lines Memory = Unit {0}
-IsFaultOf lines (Line number kind) = (line : List ℕ) × Contains lines (number, line)
-    × IsBadLine line kind
+IsFaultOf lines (Line number kind) = (before : List (ℕ × List ℕ)) × (line : List ℕ)
+    × (later : List (ℕ × List ℕ)) × (lines ≡ before ++ (number, line) ∷ later)
+    × All HasCommit before × IsBadLine line kind
 IsFaultOf lines fault = ⊥
 
--- a line of the input has the fault, or memory ran out
+-- the first line of the input that has no commit has the fault, or memory ran out
 abbrev pub IsParseFault : List ℕ → Fault → Type 0
 IsParseFault input fault = IsFaultOf (commit_lines input) fault
 

@@ -90,8 +90,8 @@ fn push_commit(
 }
 
 /// Parses the lines of the input. Returns the commits, the last first, and the number of the line
-/// of each. Skips empty lines. Fails with `Line` at a line without a TAB or with a bad name, and
-/// with `Memory` if memory runs out.
+/// of each. Skips empty lines. Fails with `Line` at the first line without a TAB or with a bad
+/// name, and with `Memory` if memory runs out.
 pub fn parse_commits(alloc: Global, input: &str) -> Result<(Vec<Commit>, Vec<usize>), Fault>
     ensures commits { IfOk result (λ parsed.
         AreCommitsOf input.now parsed.0.items parsed.1.items) }
