@@ -1,0 +1,4 @@
+//! Proved callers of `jj_sqlite`.
+#![tactic(auto)]
+
+pub mod callers;
