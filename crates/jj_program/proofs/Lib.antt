@@ -7,8 +7,9 @@ pub mod FieldValues
 pub mod FormRows
 pub mod DecidedTerms
 pub mod TextMerges
-pub mod PairCounts
-pub mod TextOutcomes
+pub mod SortedSides
+pub mod SideDecisions
+pub mod NeighborPairs
 pub mod Inputs
 pub mod SamePaths
 pub mod OneTree

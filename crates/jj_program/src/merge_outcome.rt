@@ -1,15 +1,15 @@
 //! Trivial resolution of a merge of strings in O(n log n): cancels adds with equal removes by
-//! merging their sorted lists first.
-ghost use Rattle.std.specs.Prelude.{◌≡◌, ◌+◌, ◌++◌, ◌∷◌, [], ℕ, List, IfOk, IfSome, IfNone, count_by, length, map, Contains};
-ghost use Rattle.std.specs.List.Sorted.{IsPermutation};
-ghost use Rattle.jj_merges.specs.Merge.{IsOdd, HaveSameCounts};
+//! merging their sorted lists.
+ghost use Rattle.std.specs.Prelude.{◌≡◌, ◌+◌, ◌∷◌, ◌<◌, ◌%◌, ◌⊎◌, [], ℕ, List, IfOk, OnOk, count_by, length};
+ghost use Rattle.std.specs.List.Sorted.{IsSorted};
+ghost use Rattle.jj_merges.specs.Merge.{IsOdd};
 ghost use Rattle.jj_merges.specs.Merge as merge;
-ghost use Rattle.jj_merges.specs.Resolution.{ResolvesTo};
-ghost use Rattle.jj_program.specs.MergeViews.{text_eq, HaveCountsOf, IsTextOutcome};
+ghost use Rattle.jj_program.specs.Lines.{Text};
+ghost use Rattle.jj_program.specs.MergeViews.{text_eq, text_cmp, is_other, HaveCountsOf, IsTextOutcome, ResolvesSides, IsUnmatched, IsMatched};
 
-use crate::merge_command::merge_of;
-use jj_merges::merge::{EverySecond, Merge, SameChange, trivial_merge};
+use jj_merges::merge::{SameChange, trivial_merge};
 use std::alloc::{AllocError, Global};
+use std::cmp::Ordering;
 
 // Merges with at least this many terms are sorted first; shorter ones are compared directly.
 const MANY_TERMS: usize = 64;
@@ -27,9 +27,12 @@ pub(crate) fn outcome<'t>(
     if terms.len() < MANY_TERMS {
         return Ok(decided_text(terms, same_change));
     }
-    let merge = merge_of(alloc, terms)?;
-    let left = with_pairs_cancelled(alloc, &merge)?;
-    Ok(decided_text(left.as_slice(), same_change))
+    let (adds, removes) = without_neighbors(alloc, terms)?;
+    let mut adds = adds;
+    let mut removes = removes;
+    adds.sort_unstable();
+    removes.sort_unstable();
+    Ok(decided_sides(&adds, &removes, same_change))
 }
 
 fn decided_text<'t>(terms: &[&'t str], same_change: SameChange) -> Option<&'t str>
@@ -42,79 +45,118 @@ fn decided_text<'t>(terms: &[&'t str], same_change: SameChange) -> Option<&'t st
     }
 }
 
-// Returns a merge with the same signed counts and no value on both sides.
-fn with_pairs_cancelled<'t>(
+// Returns the adds and the removes, without pairs of terms that are equal neighbours or become
+// neighbours when the terms between them cancel. `[x, a, a, b, b]` leaves only `x`, in O(n).
+fn without_neighbors<'t>(
     alloc: Global,
-    terms: &Merge<&'t str>,
-) -> Result<Merge<&'t str>, AllocError>
-    requires { IsOdd (length terms.now) }
-    ensures { IfOk result (λ left. HaveSameCounts text_eq left terms.now) }
+    terms: &[&'t str],
+) -> Result<(Vec<&'t str>, Vec<&'t str>), AllocError>
+    ensures counts { IfOk result (λ left. HaveCountsOf left.0.items left.1.items
+        (merge.adds terms.now) (merge.removes terms.now)) }
+    ensures lengths { IfOk result (λ left. length left.0.items
+        ≡ length left.1.items + length terms.now % 2) }
 {
-    let adds = sorted_texts(alloc, terms.adds())?;
-    let removes = sorted_texts(alloc, terms.removes())?;
-    let (adds, removes) = without_pairs(alloc, &adds, &removes)?;
-    let left = merge_of_sides(alloc, removes, adds)?;
-    Ok(left)
-}
-
-// Sorts one side of the merge.
-fn sorted_texts<'t>(
-    alloc: Global,
-    texts: EverySecond<'_, &'t str>,
-) -> Result<Vec<&'t str>, AllocError>
-    ensures { IfOk result (λ sorted. IsPermutation texts.entry sorted.items) }
-{
-    let mut sorted = Vec::with_capacity(alloc, texts.len())?;
-    for text in texts {
-        sorted.push(*text)?;
+    let mut adds = Vec::with_capacity(alloc, terms.len() / 2 + 1)?;
+    let mut removes = Vec::with_capacity(alloc, terms.len() / 2)?;
+    let mut index = 0;
+    while index < terms.len() {
+        let term = terms[index];
+        if index % 2 == 0 {
+            cancel_or_push(&mut adds, &mut removes, term)?;
+        } else {
+            cancel_or_push(&mut removes, &mut adds, term)?;
+        }
+        index += 1;
     }
-    sorted.sort_unstable();
-    Ok(sorted)
+    Ok((adds, removes))
 }
 
-// Builds a merge of these removes and one more adds.
-fn merge_of_sides<'t>(
-    alloc: Global,
-    removes: Vec<&'t str>,
-    adds: Vec<&'t str>,
-) -> Result<Merge<&'t str>, AllocError>
-    requires { length adds.items ≡ length removes.items + 1 }
-    ensures adds { IfOk result (λ m. merge.adds m ≡ adds.entry.items) }
-    ensures removes { IfOk result (λ m. merge.removes m ≡ removes.entry.items) }
+// Cancels a term with the last one of the other side if they are equal, else appends it to its own.
+fn cancel_or_push<'t>(
+    own: &mut Vec<&'t str>,
+    other: &mut Vec<&'t str>,
+    term: &'t str,
+) -> Result<(), AllocError>
+    ensures counts { OnOk result ((v : Text) → count_by (text_eq v) own.new.items
+        + count_by (text_eq v) other.old.items ≡ count_by (text_eq v) own.old.items
+        + count_by (text_eq v) other.new.items + count_by (text_eq v) (term.entry ∷ [])) }
+    ensures lengths { OnOk result (length own.new.items + length other.old.items
+        ≡ length own.old.items + length other.new.items + 1) }
 {
-    let merge = Merge::from_removes_adds(alloc, removes, adds)?;
-    Ok(merge)
+    let count = other.len();
+    if count > 0 && other[count - 1] == term {
+        other.truncate(count - 1);
+        return Ok(());
+    }
+    own.push(term)?;
+    Ok(())
 }
 
-// Cancels equal adds and removes by merging the two lists. Cancels every such pair if both are
-// sorted.
-fn without_pairs<'t>(
-    alloc: Global,
+// Resolves the merges with the signed counts of these sides, which are sorted and one more adds
+// than removes. Cancels equal values by merging the two lists, and stops at the first two values
+// left on one side.
+fn decided_sides<'t>(
     adds: &[&'t str],
     removes: &[&'t str],
-) -> Result<(Vec<&'t str>, Vec<&'t str>), AllocError>
-    ensures counts { IfOk result (λ left. HaveCountsOf left.0.items left.1.items adds.now
-        removes.now) }
-    ensures lengths { IfOk result (λ left. length left.0.items + length removes.now
-        ≡ length left.1.items + length adds.now) }
+    same_change: SameChange,
+) -> Option<&'t str>
+    requires adds { IsSorted text_cmp adds.now }
+    requires removes { IsSorted text_cmp removes.now }
+    requires one_more { length adds.now ≡ length removes.now + 1 }
+    ensures { ResolvesSides same_change adds.now removes.now result }
 {
-    let mut left_adds = Vec::new(alloc);
-    let mut left_removes = Vec::new(alloc);
+    let mut added: Option<&'t str> = None;
+    let mut removed: Option<&'t str> = None;
     let (mut i, mut j) = (0, 0);
-    while i < adds.len() && j < removes.len() {
-        let (add, remove) = (adds[i], removes[j]);
-        if add == remove {
-            i += 1;
-            j += 1;
-        } else if add < remove {
-            left_adds.push(add)?;
-            i += 1;
-        } else {
-            left_removes.push(remove)?;
-            j += 1;
+    while i < adds.len() || j < removes.len() {
+        match compare_heads(adds, i, removes, j) {
+            Ordering::Less => {
+                if is_other(added, adds[i]) {
+                    return None;
+                }
+                added = Some(adds[i]);
+                i += 1;
+            }
+            Ordering::Equal => {
+                i += 1;
+                j += 1;
+            }
+            Ordering::Greater => {
+                if same_change == SameChange::Keep || is_other(removed, removes[j]) {
+                    return None;
+                }
+                removed = Some(removes[j]);
+                j += 1;
+            }
         }
     }
-    left_adds.extend_from_slice(&adds[i..])?;
-    left_removes.extend_from_slice(&removes[j..])?;
-    Ok((left_adds, left_removes))
+    added
+}
+
+// Compares the add at `i` with the remove at `j`. A missing one is greater than any other.
+fn compare_heads(adds: &[&str], i: usize, removes: &[&str], j: usize) -> Ordering
+    requires adds { IsSorted text_cmp adds.now }
+    requires removes { IsSorted text_cmp removes.now }
+    requires some { (i < length adds.now) ⊎ (j < length removes.now) }
+    ensures less { result ≡ Ordering.Less → IsUnmatched adds.now i removes.now j }
+    ensures equal { result ≡ Ordering.Equal → IsMatched adds.now i removes.now j }
+    ensures greater { result ≡ Ordering.Greater → IsUnmatched removes.now j adds.now i }
+{
+    if j >= removes.len() {
+        return Ordering::Less;
+    }
+    if i >= adds.len() {
+        return Ordering::Greater;
+    }
+    adds[i].cmp(removes[j])
+}
+
+// Whether another value than `text` was found.
+fn is_other(found: Option<&str>, text: &str) -> bool
+    ensures { result ≡ is_other found.entry text.now }
+{
+    match found {
+        Some(value) => value != text,
+        None => false,
+    }
 }
