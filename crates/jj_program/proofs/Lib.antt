@@ -10,6 +10,7 @@ pub mod TextMerges
 pub mod SortedSides
 pub mod SideDecisions
 pub mod NeighborPairs
+pub mod ShortMerges
 pub mod Inputs
 pub mod SamePaths
 pub mod OneTree

@@ -134,16 +134,39 @@ fn push_answer(
         × (output.new.items ≡ output.old.items ++ answer)) }
 {
     match question {
-        Question::Simplify => {
-            let left = merge_of(alloc, terms)?.simplify(alloc)?;
-            push_line(output, "terms", left.as_slice())
-        }
+        Question::Simplify => push_simplified(alloc, output, terms),
         Question::Resolve(same_change) => {
             let found = outcome(alloc, terms, same_change)?;
             match found {
                 Some(term) => push_line(output, "resolved", &[term]),
                 None => push_line(output, "conflict", &[]),
             }
+        }
+    }
+}
+
+// Simplifies a merge and appends its line. One or three terms cancel without an allocation of their
+// own: most merges are so short.
+fn push_simplified(alloc: Global, output: &mut Vec<u8>, terms: &[&str]) -> Result<(), AllocError>
+    requires { IsOdd (length terms.now) }
+    ensures { OnOk result ((answer : List ℕ)
+        × IsMergeAnswer (Question.Simplify, texts_of terms.now) answer
+        × (output.new.items ≡ output.old.items ++ answer)) }
+{
+    match terms {
+        [_] => push_line(output, "terms", terms),
+        [left, base, right] => {
+            if *left == *base {
+                push_line(output, "terms", &[*right])
+            } else if *right == *base {
+                push_line(output, "terms", &[*left])
+            } else {
+                push_line(output, "terms", terms)
+            }
+        }
+        _ => {
+            let left = merge_of(alloc, terms)?.simplify(alloc)?;
+            push_line(output, "terms", left.as_slice())
         }
     }
 }
