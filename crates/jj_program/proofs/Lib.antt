@@ -10,6 +10,8 @@ pub mod TextMerges
 pub mod SortedSides
 pub mod SideDecisions
 pub mod NeighborPairs
+pub mod CountedValues
+pub mod CountDecisions
 pub mod ShortMerges
 pub mod Inputs
 pub mod SamePaths

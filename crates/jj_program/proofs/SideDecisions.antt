@@ -17,7 +17,7 @@ both v a x va vx = sym (text_laws.congr v a x va) ∙ vx
 
 module _ (m : List Text) where
   -- two values with positive counts
-  two_added : (change : SameChange) (a x : Text) → text_eq a x ≡ false → all_removed text_eq m a < all_added text_eq m a
+  pub two_added : (change : SameChange) (a x : Text) → text_eq a x ≡ false → all_removed text_eq m a < all_added text_eq m a
       → all_removed text_eq m x < all_added text_eq m x → HasNoResolution text_eq m change
   two_added Keep a x apart a_more x_more v d =
       let va = d.1 a (not_zero (all_added text_eq m a) (all_removed text_eq m a) (λ e. omega (arith, e))) in
@@ -29,11 +29,11 @@ module _ (m : List Text) where
       false≢true (sym apart ∙ both v a x va vx)
 
   -- a value with a negative count, where equal changes are kept
-  kept_removed : (change : SameChange) (x : Text) → change ≡ Keep → all_added text_eq m x < all_removed text_eq m x → HasNoResolution text_eq m change
+  pub kept_removed : (change : SameChange) (x : Text) → change ≡ Keep → all_added text_eq m x < all_removed text_eq m x → HasNoResolution text_eq m change
   kept_removed change x keep more = keep_unresolved text_eq text_laws m change x keep (λ e. omega (arith, e)) (λ e. omega (arith, e))
 
   -- two values with negative counts
-  two_removed : (change : SameChange) (r x : Text) → text_eq r x ≡ false → all_added text_eq m r < all_removed text_eq m r
+  pub two_removed : (change : SameChange) (r x : Text) → text_eq r x ≡ false → all_added text_eq m r < all_removed text_eq m r
       → all_added text_eq m x < all_removed text_eq m x → HasNoResolution text_eq m change
   two_removed Keep r x apart r_more x_more v d = kept_removed Keep x refl x_more v d
   two_removed Accept r x apart r_more x_more v d =

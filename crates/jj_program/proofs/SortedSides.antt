@@ -89,9 +89,6 @@ module _ (v : Text) (xs : List Text) (i : ℕ) (d : Text) (within : i < length x
 one_yes : (v x : Text) → text_eq v x ≡ true → same v x ≡ 1
 one_yes v x h = ap (λ (t : Bool). let n : ℕ = cond t 1 0 in n) h
 
-one_no : (v x : Text) → text_eq v x ≡ false → same v x ≡ 0
-one_no v x h = ap (λ (t : Bool). let n : ℕ = cond t 1 0 in n) h
-
 cond_more : (b : Bool) (m : ℕ) → cond b (m + 1) 0 ≡ cond b m 0 + cond b 1 0
 cond_more true m = refl
 cond_more false m = refl

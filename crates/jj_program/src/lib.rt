@@ -13,6 +13,7 @@ pub mod laws;
 mod lines;
 mod listed_graph;
 mod merge_command;
+mod merge_counts;
 mod merge_outcome;
 mod numbering;
 pub mod program;

@@ -1,5 +1,5 @@
-//! Trivial resolution of a merge of strings in O(n log n): cancels adds with equal removes by
-//! merging their sorted lists.
+//! Trivial resolution of a merge of strings in O(n log n), or O(n) for few distinct values: cancels
+//! adds with equal removes by merging their sorted lists.
 ghost use Rattle.std.specs.Prelude.{◌≡◌, ◌+◌, ◌∷◌, ◌<◌, ◌%◌, ◌⊎◌, [], ℕ, List, IfOk, OnOk, count_by, length};
 ghost use Rattle.std.specs.List.Sorted.{IsSorted};
 ghost use Rattle.jj_merges.specs.Merge.{IsOdd};
@@ -7,11 +7,12 @@ ghost use Rattle.jj_merges.specs.Merge as merge;
 ghost use Rattle.jj_program.specs.Lines.{Text};
 ghost use Rattle.jj_program.specs.MergeViews.{text_eq, text_cmp, is_other, HaveCountsOf, IsTextOutcome, ResolvesSides, IsUnmatched, IsMatched};
 
+use crate::merge_counts::{counted, decided_counts};
 use jj_merges::merge::{SameChange, trivial_merge};
 use std::alloc::{AllocError, Global};
 use std::cmp::Ordering;
 
-// Merges with at least this many terms are sorted first; shorter ones are compared directly.
+// Merges with at least this many terms are counted or sorted; shorter ones are compared directly.
 const MANY_TERMS: usize = 64;
 
 // Resolves a merge of these terms if their signed counts determine one value. Allocates only if
@@ -26,6 +27,9 @@ pub(crate) fn outcome<'t>(
 {
     if terms.len() < MANY_TERMS {
         return Ok(decided_text(terms, same_change));
+    }
+    if let Some(counts) = counted(alloc, terms)? {
+        return Ok(decided_counts(&counts, same_change));
     }
     let (adds, removes) = without_neighbors(alloc, terms)?;
     let mut adds = adds;

@@ -11,6 +11,6 @@ returns c = c.decided_sides.ensures c.args.terms.now (λ v.
     c.sort_unstable.ensures.permutation in
     let removed = sum_by-IsPermutation (same v) c.in_ok-adds.removes.items
     c.sort_unstable-2.new.self.items c.sort_unstable-2.ensures.permutation in
-    let adds_lent = ap (count_by (text_eq v)) c.deref.ensures.value in
-    let removes_lent = ap (count_by (text_eq v)) c.deref-2.ensures.value in
+    let adds_lent = ap (count_by (text_eq v)) c.deref-2.ensures.value in
+    let removes_lent = ap (count_by (text_eq v)) c.deref-3.ensures.value in
     omega (arith, c.in_ok-adds.ensures.counts v, added, removed, adds_lent, removes_lent))
