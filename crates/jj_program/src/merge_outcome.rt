@@ -1,6 +1,7 @@
 //! Trivial resolution of a merge of strings in O(n log n), or O(n) for few distinct values: cancels
 //! adds with equal removes by merging their sorted lists.
-ghost use Rattle.std.specs.Prelude.{◌≡◌, ◌+◌, ◌∷◌, ◌<◌, ◌%◌, ◌⊎◌, [], ℕ, List, IfOk, OnOk, count_by, length};
+ghost use Rattle.std.specs.Prelude.{◌≡◌, ◌+◌, ◌∷◌, ◌<◌, ◌%◌, ◌⊎◌, [], ℕ, List, IfOk, OnOk, IsTrue, None, cond, count_by, length};
+ghost use Rattle.std.specs.Str.{bytes_eq};
 ghost use Rattle.std.specs.List.Sorted.{IsSorted};
 ghost use Rattle.jj_merges.specs.Merge.{IsOdd};
 ghost use Rattle.jj_merges.specs.Merge as merge;
@@ -31,6 +32,9 @@ pub(crate) fn outcome<'t>(
     if let Some(counts) = counted(alloc, terms)? {
         return Ok(decided_counts(&counts, same_change));
     }
+    if conflicts_at_start(terms, same_change) {
+        return Ok(None);
+    }
     let (adds, removes) = without_neighbors(alloc, terms)?;
     let mut adds = adds;
     let mut removes = removes;
@@ -47,6 +51,56 @@ fn decided_text<'t>(terms: &[&'t str], same_change: SameChange) -> Option<&'t st
         Some(term) => Some(*term),
         None => None,
     }
+}
+
+// Whether the first remove or the first two adds are left, so that the merge is a conflict, as most
+// merges of many values are. At most three comparisons for each term.
+fn conflicts_at_start(terms: &[&str], same_change: SameChange) -> bool
+    requires { 2 < length terms.now }
+    ensures { IsTrue result → IsTextOutcome same_change terms.now None }
+{
+    if same_change == SameChange::Keep {
+        let (adds, removes) = count_of(terms, terms[1]);
+        if adds < removes {
+            return true;
+        }
+    }
+    if terms[0] == terms[2] {
+        return false;
+    }
+    let (first_adds, first_removes) = count_of(terms, terms[0]);
+    if first_adds <= first_removes {
+        return false;
+    }
+    let (next_adds, next_removes) = count_of(terms, terms[2]);
+    next_removes < next_adds
+}
+
+// Counts the adds and the removes that are equal to a string.
+fn count_of(terms: &[&str], text: &str) -> (usize, usize)
+    ensures adds { result.0 ≡ count_by (text_eq text.entry) (merge.adds terms.now) }
+    ensures removes { result.1 ≡ count_by (text_eq text.entry) (merge.removes terms.now) }
+{
+    let mut adds = 0;
+    let mut removes = 0;
+    let mut index = 0;
+    while index < terms.len() {
+        let equal = one_if_equal(text, terms[index]);
+        if index % 2 == 0 {
+            adds += equal;
+        } else {
+            removes += equal;
+        }
+        index += 1;
+    }
+    (adds, removes)
+}
+
+// Returns 1 for equal strings, else 0.
+fn one_if_equal(text: &str, other: &str) -> usize
+    ensures { result ≡ cond (bytes_eq text.now other.now) 1 0 }
+{
+    if text == other { 1 } else { 0 }
 }
 
 // Returns the adds and the removes, without pairs of terms that are equal neighbours or become
