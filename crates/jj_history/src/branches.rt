@@ -38,83 +38,91 @@ fn write_directory<B: Backend>(
     }
 }
 
-// Writes the tree of a library with one module and perhaps an example.
-fn write_library<B: Backend>(
-    alloc: Global,
-    store: &mut B,
-    readme: &str,
-    module: &str,
-    example: Option<&str>,
-) -> Result<TreeId, Fault> {
-    let source = match example {
-        None => write_directory(alloc, store, &[("lib.rs", module)], None)?,
-        Some(example) => {
-            write_directory(
-                alloc,
-                store,
-                &[("lib.rs", module), ("main.rs", example)],
-                None,
-            )?
-        }
-    };
-    write_directory(alloc, store, &[("README", readme)], Some(("src", source)))
+// A version of a small library: the name and the description of its commit, and its files.
+struct Version {
+    name: &'static str,
+    description: &'static str,
+    readme: &'static str,
+    sources: &'static [(&'static str, &'static str)],
+    change: u8,
 }
 
-// Writes a commit with one parent. The bytes of its change id are all `change`.
-fn write_commit<B: Backend>(
+const BASE: Version = Version {
+    name: "base",
+    description: "start a library",
+    readme: "A library.\n",
+    sources: &[("lib.rs", "pub const RETRIES: u32 = 3;\n")],
+    change: 1,
+};
+
+const SIDES: &[Version] = &[
+    Version {
+        name: "left",
+        description: "raise the retries",
+        readme: "A library.\n",
+        sources: &[("lib.rs", "pub const RETRIES: u32 = 5;\n")],
+        change: 2,
+    },
+    Version {
+        name: "right",
+        description: "never retry, and add an example",
+        readme: "A library with an example.\n",
+        sources: &[
+            ("lib.rs", "pub const RETRIES: u32 = 0;\n"),
+            ("main.rs", "fn main() {}\n"),
+        ],
+        change: 3,
+    },
+];
+
+// Writes the tree of a version: a file, and a directory of sources.
+fn write_files<B: Backend>(
     alloc: Global,
     store: &mut B,
-    parent: &CommitId,
+    version: &Version,
+) -> Result<TreeId, Fault> {
+    let sources = write_directory(alloc, store, version.sources, None)?;
+    let readme = [("README", version.readme)];
+    write_directory(alloc, store, &readme, Some(("src", sources)))
+}
+
+// Returns a commit with one parent. The bytes of its change id are all that of the version.
+fn commit_of(
+    alloc: Global,
+    version: &Version,
+    parent: CommitId,
     tree: TreeId,
-    description: &str,
-    change: u8,
-) -> Result<CommitId, Fault> {
-    let change_id = ChangeId::from_bytes(alloc, &[change; 16])?;
+) -> Result<Commit, Fault> {
+    let change_id = ChangeId::from_bytes(alloc, &[version.change; 16])?;
     let mut commit = make_root_commit(alloc, change_id, tree);
-    commit.parents.push(parent.clone()?)?;
-    commit.description = String::from_str(alloc, description)?;
+    commit.parents.push(parent)?;
+    commit.description = String::from_str(alloc, version.description)?;
+    Ok(commit)
+}
+
+// Writes the commit of a version. Appends a line of its name and its id.
+fn write_version<B: Backend>(
+    alloc: Global,
+    store: &mut B,
+    output: &mut String,
+    version: &Version,
+    parent: CommitId,
+) -> Result<CommitId, Fault> {
+    let tree = write_files(alloc, store, version)?;
+    let commit = commit_of(alloc, version, parent, tree)?;
     let (id, _) = store.write_commit(alloc, commit, None::<&mut NoSigner>)?;
+    push_id(alloc, output, version.name, &id)?;
     Ok(id)
 }
 
 // Writes a commit and two children of it, each with its tree. Returns lines of a name and an id.
 pub(crate) fn write_branches<B: Backend>(alloc: Global, store: &mut B) -> Result<String, Fault> {
     let root = store.root_commit_id().clone()?;
-    let tree = write_library(
-        alloc,
-        store,
-        "A library.\n",
-        "pub const RETRIES: u32 = 3;\n",
-        None,
-    )?;
-    let base = write_commit(alloc, store, &root, tree, "start a library", 1)?;
-    let tree = write_library(
-        alloc,
-        store,
-        "A library.\n",
-        "pub const RETRIES: u32 = 5;\n",
-        None,
-    )?;
-    let left = write_commit(alloc, store, &base, tree, "raise the retries", 2)?;
-    let tree = write_library(
-        alloc,
-        store,
-        "A library with an example.\n",
-        "pub const RETRIES: u32 = 0;\n",
-        Some("fn main() {}\n"),
-    )?;
-    let right = write_commit(
-        alloc,
-        store,
-        &base,
-        tree,
-        "never retry, and add an example",
-        3,
-    )?;
     let mut output = String::new(alloc);
-    push_id(alloc, &mut output, "base", &base)?;
-    push_id(alloc, &mut output, "left", &left)?;
-    push_id(alloc, &mut output, "right", &right)?;
+    let base = write_version(alloc, store, &mut output, &BASE, root)?;
+    for version in SIDES {
+        let _side = write_version(alloc, store, &mut output, version, base.clone()?)?;
+    }
     Ok(output)
 }
 

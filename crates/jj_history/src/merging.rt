@@ -91,6 +91,35 @@ fn write_merge<B: Backend>(
     Ok(id)
 }
 
+// Returns the merge of the trees of two sides and their base, and of their labels.
+fn read_sides<B: Backend>(
+    alloc: Global,
+    store: &B,
+    left: &CommitId,
+    base: &CommitId,
+    right: &CommitId,
+) -> Result<(Merge<TreeId>, ConflictLabels), Fault> {
+    let (left_tree, left_label) = tree_of(alloc, store, left)?;
+    let (base_tree, base_label) = tree_of(alloc, store, base)?;
+    let (right_tree, right_label) = tree_of(alloc, store, right)?;
+    let trees = sides(alloc, left_tree, base_tree, right_tree)?;
+    let labels = sides(alloc, left_label, base_label, right_label)?;
+    Ok((trees, ConflictLabels::from_merge(labels)))
+}
+
+// Returns the lines of a merge of trees.
+fn merge_lines<B: Backend>(
+    alloc: Global,
+    store: &B,
+    trees: &Merge<TreeId>,
+    labels: &ConflictLabels,
+) -> Result<String, Fault> {
+    let merged = merge_labeled(alloc, store, trees, labels)?;
+    let mut output = String::new(alloc);
+    push_merge(alloc, &mut output, &merged)?;
+    Ok(output)
+}
+
 // Merges two commits by the trees of them and of their merge base, and writes a commit of the
 // merge. Returns the paths of the merge, and the log from that commit.
 pub(crate) fn merge_branches<B: Backend>(
@@ -99,16 +128,11 @@ pub(crate) fn merge_branches<B: Backend>(
     left: CommitId,
     right: CommitId,
 ) -> Result<String, Fault> {
-    let base = merge_base(alloc, store, &left, &right)?;
-    let (left_tree, left_label) = tree_of(alloc, store, &left)?;
-    let (base_tree, base_label) = tree_of(alloc, store, &base)?;
-    let (right_tree, right_label) = tree_of(alloc, store, &right)?;
-    let trees = sides(alloc, left_tree, base_tree, right_tree)?;
-    let labels = ConflictLabels::from_merge(sides(alloc, left_label, base_label, right_label)?);
-    let merged = merge_labeled(alloc, store, &trees, &labels)?;
     let mut output = String::new(alloc);
+    let base = merge_base(alloc, store, &left, &right)?;
     push_id(alloc, &mut output, "merge base", &base)?;
-    push_merge(alloc, &mut output, &merged)?;
+    let (trees, labels) = read_sides(alloc, store, &left, &base, &right)?;
+    output.push_str(merge_lines(alloc, store, &trees, &labels)?.as_str())?;
     let merge = write_merge(alloc, store, left, right, trees, labels)?;
     output.push_str(draw_history(alloc, store, merge)?.as_str())?;
     Ok(output)
