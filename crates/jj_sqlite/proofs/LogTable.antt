@@ -318,7 +318,7 @@ bytes_of (Real x) = []
 bytes_of (Text t) = t
 bytes_of (Blob b) = b
 
-abbrev entry_in : Row → LogEntryValue
+abbrev pub entry_in : Row → LogEntryValue
 entry_in row = record { kind = kind_of (bytes_of (column row 0)); id = bytes_of (column row 1); bytes = bytes_of (column row 2) }
 
 kind_is : (kind : ObjectKind) → kind_of (kind_name kind) ≡ kind
@@ -328,7 +328,7 @@ kind_is Copy = refl
 kind_is Tree = refl
 kind_is Commit = refl
 
-entry_is : (row : Row) (entry : LogEntryValue) → IsEntryRow row entry → entry_in row ≡ entry
+pub entry_is : (row : Row) (entry : LogEntryValue) → IsEntryRow row entry → entry_in row ≡ entry
 entry_is row entry is i = record {
   kind = (ap (λ v. kind_of (bytes_of v)) is.0 ∙ kind_is entry.kind) i;
   id = ap bytes_of is.1 i;
@@ -348,14 +348,19 @@ same_entries (e ∷ entries) = λ i. entry_is (entry_row e) e (refl, refl, refl)
 pub keeps_reading : (old new : State) (rows : List Row) (entries : List LogEntryValue) → HasEntries old entries → Shown select_statement [] old new rows → HasEntries new entries
 keeps_reading old new rows entries has h = unchanged old new entries has (shown_unchanged select_statement [] old new log_schema has.schema select_plain rows h)
 
--- the entries of the rows are those of the table
-pub reads : (old new : State) (rows : List Row) (read entries : List LogEntryValue) → HasEntries old entries → Shown select_statement [] old new rows → AllZip IsGoodRow rows read
-    → IsPermutation read entries
-reads old new rows read entries has h all =
+-- the entries of the rows that are shown are those of the table
+pub shown_entries : (old new : State) (rows : List Row) (entries : List LogEntryValue) → HasEntries old entries → Shown select_statement [] old new rows → IsPermutation (map entry_in rows) entries
+shown_entries old new rows entries has h =
     let answer = (reads_as select_statement [] old new log_schema has.schema _ select_is.0 select_plain select_is.1 rows h).answer in
     let shown = shows_all old.now.trees rows (answer Null) in
     let same = IsPermutation-trans rows (map logged_columns (old.now.trees 0)) (map entry_row entries) (IsPermutation-sym (map logged_columns (old.now.trees 0)) rows shown) has.rows in
-    subst₂ (λ xs ys. IsPermutation xs ys) (entries_are rows read all) (same_entries entries) (IsPermutation-map entry_in rows (map entry_row entries) same)
+    subst (λ (l : List LogEntryValue). IsPermutation (map entry_in rows) l) (same_entries entries) (IsPermutation-map entry_in rows (map entry_row entries) same)
+
+-- the entries that are read are those of the table
+pub reads : (old new : State) (rows : List Row) (read entries : List LogEntryValue) → HasEntries old entries → Shown select_statement [] old new rows → AllZip IsGoodRow rows read
+    → IsPermutation read entries
+reads old new rows read entries has h all =
+    subst (λ (l : List LogEntryValue). IsPermutation l entries) (entries_are rows read all) (shown_entries old new rows entries has h)
 
 -- ---- results
 

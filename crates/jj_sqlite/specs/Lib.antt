@@ -2,3 +2,4 @@ pub mod Tables
 pub mod Inserts
 pub mod Rows
 pub mod Opening
+pub mod WrongObjects

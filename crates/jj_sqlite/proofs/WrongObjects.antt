@@ -1,0 +1,80 @@
+-- The error WrongObject of opening names an entry of the log.
+use Rattle.std.proofs.Common.{◌≡◌, inl, inr, ℕ, zero, suc, List, [], ◌∷◌, map, slice_get, Some, sym, ap, subst, arith}
+use Rattle.std.specs.Prelude.{Contains, IsTrue}
+use Rattle.std.specs.List.Sorted.{IsPermutation}
+use Rattle.std.proofs.lemmas.List.Sorted.{Contains-permutation}
+use Rattle.sqlite.specs.declared.error.Error.{Error}
+use Rattle.sqlite.specs.declared.error.Error.TheVariants.{SqliteFailure}
+use Rattle.sqlite.specs.declared.error.ErrorCode.{ErrorCode}
+use Rattle.sqlite.specs.declared.error.ErrorCode.TheVariants.{OutOfMemory}
+use Rattle.sqlite.specs.Held.{Held, state}
+use Rattle.sqlite.specs.Order.{Row}
+use Rattle.sqlite.specs.State.{HasCleanDisk}
+use Rattle.sqlite.specs.Store.{Ghosts}
+use Rattle.jj_mirror.specs.Entries.{LogEntryValue}
+use Rattle.jj_replay.specs.Replays.{IsReplayError}
+use Rattle.jj_replay.specs.declared.error.ReplayError.{ReplayError}
+use Rattle.jj_replay.specs.declared.error.ReplayError.TheVariants as replay
+use Rattle.jj_sqlite.specs.Inserts.{WasNewOrContains}
+use Rattle.jj_sqlite.specs.Opening.{IsOpenError, open_error, sqlite_error}
+use Rattle.jj_sqlite.specs.Rows.{IsReadError}
+use Rattle.jj_sqlite.specs.Tables.{HasEntries, select_statement}
+use Rattle.jj_sqlite.specs.WrongObjects.{HasWrongObject}
+use Rattle.jj_sqlite.specs.declared.error.OpenError.{OpenError}
+use Rattle.jj_sqlite.specs.declared.error.OpenError.TheVariants.{Memory, Sqlite, WrongObject, UnknownKind, Malformed, Backend}
+use Rattle.jj_sqlite.proofs.LogTable.{creates, entry_in, entry_is, reads, shown_entries, shown_open}
+
+at_index : {A B : Type 0} (f : A → B) (xs : List A) (i : ℕ) (x : A) → slice_get xs i ≡ Some x → Contains (map f xs) (f x)
+at_index f [] zero x e = absurd cc
+at_index f [] (suc i) x e = absurd cc
+at_index f (y ∷ xs) zero x e = (zero, omega arith, ap f cc)
+at_index f (y ∷ xs) (suc i) x e = let rest = at_index f xs i x e in (suc rest.0, omega (arith, rest.1), rest.2)
+
+item_at : {A : Type 0} (xs : List A) (i : ℕ) (x : A) → slice_get xs i ≡ Some x → Contains xs x
+item_at [] zero x e = absurd cc
+item_at [] (suc i) x e = absurd cc
+item_at (y ∷ xs) zero x e = (zero, omega arith, cc)
+item_at (y ∷ xs) (suc i) x e = let rest = item_at xs i x e in (suc rest.0, omega (arith, rest.1), rest.2)
+
+of_code : (entries : List LogEntryValue) (code : ErrorCode) → HasWrongObject entries (sqlite_error (SqliteFailure code))
+of_code entries OutOfMemory = tt
+of_code entries _ = tt
+
+of_sqlite : (entries : List LogEntryValue) (cause : Error) → HasWrongObject entries (sqlite_error cause)
+of_sqlite entries (SqliteFailure code) = of_code entries code
+of_sqlite entries _ = tt
+
+of_rows : (rows : List Row) (entries : List LogEntryValue) (e : OpenError) → IsPermutation (map entry_in rows) entries → IsReadError rows e → HasWrongObject entries e
+of_rows rows entries Memory same fails = tt
+of_rows rows entries (Sqlite cause) same fails = tt
+of_rows rows entries (WrongObject kind id) same fails =
+    let entry = fails.5.0 in
+    let found : Contains (map entry_in rows) entry = subst (λ (e : LogEntryValue). Contains (map entry_in rows) e) (entry_is fails.1 entry fails.5.1) (at_index entry_in rows fails.0 fails.1 fails.3) in
+    (entry, Contains-permutation (map entry_in rows) entries entry same found, (fails.5.2, fails.5.3), fails.5.4)
+of_rows rows entries (UnknownKind id) same fails = tt
+of_rows rows entries (Malformed kind id reason offset) same fails = tt
+of_rows rows entries (Backend error) same fails = tt
+
+of_replay : (read entries : List LogEntryValue) (cause : ReplayError) → IsPermutation read entries → IsReplayError read cause → HasWrongObject entries (open_error cause)
+of_replay read entries replay.Memory same fails = tt
+of_replay read entries (replay.Malformed kind id reason offset) same fails = tt
+of_replay read entries (replay.WrongObject kind id) same fails =
+    (fails.1, Contains-permutation read entries fails.1 same (item_at read fails.0 fails.1 fails.3), fails.5.0, fails.5.1)
+of_replay read entries (replay.Backend error) same fails = tt
+
+-- if the log had these entries, WrongObject names one of them
+pub wrong_object : {S : Type 0} (g : Ghosts S) (old new : Held S) (entries : List LogEntryValue) (e : OpenError) → HasCleanDisk (state g old)
+    → WasNewOrContains g old entries → IsOpenError g old new e → HasWrongObject entries e
+wrong_object g old new entries e clean had fails = elim fails [
+  | inl create ↦ subst (HasWrongObject entries) (sym create.1) (of_sqlite entries create.0)
+  | inr rest ↦
+      let has : IsTrue (state g rest.0).is_open → HasEntries (state g rest.0) entries = creates (state g old) (state g rest.0) rest.1.0 entries (had clean) rest.1.1 in
+      elim rest.2 [
+        | inl read ↦ elim read [
+          | inl query ↦ subst (HasWrongObject entries) (sym query.1) (of_sqlite entries query.0)
+          | inr rows ↦ of_rows rows.0 entries e (shown_entries (state g rest.0) (state g new) rows.0 entries (has (shown_open select_statement [] (state g rest.0) (state g new) rows.0 rows.1)) rows.1) rows.2
+        ]
+        | inr replayed ↦ subst (HasWrongObject entries) (sym replayed.is_error) (of_replay replayed.entries entries replayed.cause
+            (reads (state g rest.0) (state g new) replayed.rows replayed.entries entries (has (shown_open select_statement [] (state g rest.0) (state g new) replayed.rows replayed.are_read)) replayed.are_read replayed.are_good) replayed.is_cause)
+      ]
+]
