@@ -1,5 +1,6 @@
-//! A proved caller: a commit that is read from a database that is opened again.
-ghost use Rattle.std.specs.Prelude.{◌≡◌, ◌++◌, [], ◌∷◌, true, List, Contains, IfOk, OnOk};
+//! Proved callers: a commit that is read from a database that is opened again.
+ghost use Rattle.std.specs.Prelude.{◌≡◌, ◌++◌, [], ◌∷◌, true, List, Contains, IfOk, IfSome, OnOk};
+ghost use Rattle.sqlite.specs.Files.{file_state, over_files};
 ghost use Rattle.sqlite.specs.Held.{state};
 ghost use Rattle.sqlite.specs.State.{HasCleanDisk};
 ghost use Rattle.jj_content.specs.Blake2b.{blake2b};
@@ -8,7 +9,10 @@ ghost use Rattle.jj_backend.specs.Objects.{commit_object};
 ghost use Rattle.jj_backend.specs.Records.{CommitValue, commit_eq};
 ghost use Rattle.jj_mirror.specs.Entries.{LogEntryValue, entry_of};
 ghost use Rattle.jj_mirror.specs.Logs.{Appends};
+ghost use Rattle.jj_mirror.specs.declared.object_log.ObjectKind.{ObjectKind};
 ghost use Rattle.jj_sqlite.specs.Inserts.{ContainsEntries, WasNewOrContains};
+ghost use Rattle.jj_sqlite.specs.Rows.{HasDigest};
+ghost use Rattle.jj_sqlite.specs.declared.error.OpenError.TheVariants.{WrongObject};
 
 use jj_backend::backend::{Backend, BackendResult, Commit, CommitId, NoSigner};
 use jj_content::content_hash::blake2b_hash;
@@ -17,7 +21,8 @@ use jj_sqlite::error::OpenError;
 use jj_sqlite::sqlite_log::SqliteLog;
 use jj_sqlite::store::open_store;
 use jj_trees::memory_backend::MemoryBackend;
-use sqlite::{Alter, Connection};
+use sqlite::{Alter, Connection, FileStore, Options};
+use sqlite_disk::Disk;
 use std::alloc::{AllocError, Global};
 
 fn log_commit<S: Alter>(
@@ -92,19 +97,75 @@ pub fn read_stored<S: Alter>(
     }
 }
 
-/// Writes a commit to a database, opens it again, and reads an equal commit.
-pub fn reopened_commit<S: Alter>(
+// Closes the files of a database and opens them again.
+fn reopen<D: Disk + Drop>(
     alloc: Global,
-    conn: Connection<S>,
+    conn: Connection<FileStore<D>>,
+    options: Options,
+) -> Result<Connection<FileStore<D>>, OpenError>
+    ensures { IfOk result (λ again. (entries : List LogEntryValue)
+        → ContainsEntries over_files conn entries → ContainsEntries over_files again entries) }
+{
+    let _schema = conn.schema();
+    let files = match conn.close_files() {
+        Ok(files) => files,
+        Err((error, store)) => {
+            drop(store.close());
+            return Err(OpenError::from(error));
+        }
+    };
+    match Connection::open_files(alloc, files, options) {
+        Ok(again) => Ok(again),
+        Err((error, _)) => Err(OpenError::from(error)),
+    }
+}
+
+/// Writes a commit to the files of a database and closes them. Opens them again, as a later process
+/// does, and reads an equal commit.
+pub fn reread_commit<D: Disk + Drop>(
+    alloc: Global,
+    conn: Connection<FileStore<D>>,
     commit: Commit,
-) -> (Result<Commit, OpenError>, Connection<S>)
-    ensures { HasCleanDisk (state S.Store result.1) → IfOk result.0 (λ read.
-        (entries : List LogEntryValue) → WasNewOrContains S.Store conn entries
-        → commit_eq commit read ≡ true) }
+    options: Options,
+) -> Result<(Commit, Connection<FileStore<D>>), OpenError>
+    ensures { IfOk result (λ reread. HasCleanDisk (file_state reread.1)
+        → (entries : List LogEntryValue) → WasNewOrContains over_files conn entries
+        → commit_eq commit reread.0 ≡ true) }
 {
     let (written, conn) = write_stored(alloc, conn, commit);
-    match written {
-        Ok(id) => read_stored(alloc, conn, &id),
-        Err(error) => (Err(error), conn),
+    let id = written?;
+    let again = reopen(alloc, conn, options)?;
+    let (read, again) = read_stored(alloc, again, &id);
+    Ok((read?, again))
+}
+
+// Returns the id that the error names, if it is of an object with another digest.
+fn wrong_id(error: OpenError) -> Option<Vec<u8>>
+    ensures { IfSome result (λ id. (kind : ObjectKind) × (error ≡ WrongObject kind id)) }
+{
+    match error {
+        OpenError::WrongObject { kind: _, id } => Some(id),
+        _ => None,
+    }
+}
+
+/// Opens a store over a database. If that fails with `WrongObject`, returns the id, which is that
+/// of an entry in the log whose object has another digest.
+pub fn wrong_object<S: Alter>(
+    alloc: Global,
+    conn: Connection<S>,
+) -> (Option<Vec<u8>>, Connection<S>)
+    ensures { HasCleanDisk (state S.Store conn) → HasCleanDisk (state S.Store result.1)
+        → IfSome result.0 (λ id. (entries : List LogEntryValue)
+        → WasNewOrContains S.Store conn entries
+        → (entry : LogEntryValue) × Contains entries entry × (entry.id ≡ id.items)
+        × ¬ (HasDigest entry)) }
+{
+    match open_store(alloc, conn) {
+        Ok(store) => {
+            let (_, log) = store.into_parts();
+            (None, log.into_connection())
+        }
+        Err((error, conn)) => (wrong_id(error), conn),
     }
 }
