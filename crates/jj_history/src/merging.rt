@@ -2,7 +2,7 @@
 use crate::branches::push_id;
 use crate::drawing::draw_history;
 use crate::fault::Fault;
-use jj_backend::backend::{Backend, MergedTreeValueExt, NoSigner, make_root_commit};
+use jj_backend::backend::{Backend, Commit, MergedTreeValueExt, NoSigner, make_root_commit};
 use jj_ids::object_id::{ChangeId, CommitId, TreeId};
 use jj_merges::conflict_labels::ConflictLabels;
 use jj_merges::merge::{Diff, Merge, SameChange};
@@ -33,12 +33,15 @@ fn merge_base<B: Backend>(
 }
 
 // Returns the tree of a commit, and its description as a label.
-fn tree_of<B: Backend>(alloc: Global, store: &B, id: &CommitId) -> Result<(TreeId, String), Fault> {
-    let commit = store.read_commit(alloc, id)?;
+fn side_of(commit: &Commit) -> Result<(TreeId, String), Fault> {
     match commit.root_tree.as_resolved() {
         Some(tree) => Ok((tree.clone()?, commit.description.clone()?)),
         None => Err(Fault::Conflict),
     }
+}
+
+fn tree_of<B: Backend>(alloc: Global, store: &B, id: &CommitId) -> Result<(TreeId, String), Fault> {
+    side_of(&store.read_commit(alloc, id)?)
 }
 
 // Merges trees. The labels are dropped unless there is one for each tree.
