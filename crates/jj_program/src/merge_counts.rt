@@ -15,6 +15,10 @@ const MAX_VALUES: usize = 64;
 // The table of hints: where in the list of counts a value was last.
 const HINTS: usize = 256;
 
+// Merges whose values share hints are not counted either: for each term, so many comparisons with
+// values that no hint led to take about as long as sorting.
+const MAX_COMPARISONS: usize = 8;
+
 // A value with the numbers of adds and of removes that are equal to it.
 #[derive(Clone, Copy)]
 pub(crate) struct ValueCount<'t> {
@@ -23,7 +27,8 @@ pub(crate) struct ValueCount<'t> {
     removes: usize,
 }
 
-// Counts the adds and removes of each value. Returns `None` if there are too many values.
+// Counts the adds and removes of each value. Returns `None` if there are too many values, or too
+// many share hints.
 pub(crate) fn counted<'t>(
     alloc: Global,
     terms: &[&'t str],
@@ -32,13 +37,19 @@ pub(crate) fn counted<'t>(
 {
     let mut counts = Vec::new(alloc);
     let mut hints = [0usize; HINTS];
+    let mut compared = 0;
     let mut index = 0;
     while index < terms.len() {
+        if compared / MAX_COMPARISONS > terms.len() {
+            return Ok(None);
+        }
         let term = terms[index];
         let hint = hint_of(term);
-        let Some(at) = index_of(&mut counts, hints[hint], term)? else {
+        let near = hints[hint];
+        let Some(at) = index_of(&mut counts, near, term)? else {
             return Ok(None);
         };
+        compared = compared_after(compared, near, at);
         hints[hint] = at;
         let found = counts[at];
         if index % 2 == 0 {
@@ -57,6 +68,16 @@ pub(crate) fn counted<'t>(
         index += 1;
     }
     Ok(Some(counts))
+}
+
+// Returns the number of comparisons after a value was found at `at`, which was looked for at `near`
+// first.
+fn compared_after(compared: usize, near: usize, at: usize) -> usize {
+    if near == at {
+        compared
+    } else {
+        compared.saturating_add(at)
+    }
 }
 
 // A number that few values of a merge share.
