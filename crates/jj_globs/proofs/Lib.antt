@@ -10,6 +10,7 @@ pub mod BitSets
 pub mod SummaryBits
 pub mod Transitions
 pub mod StateTests
+pub mod BitTables
 pub mod CompiledParts
 pub mod ByteSets
 pub mod CompiledTokens

@@ -1,12 +1,13 @@
 -- A prefix match is a match of the glob's tokens with `{/**,}` appended.
 use Rattle.std.proofs.Math.Path.{fun_ext}
 use Rattle.std.specs.Prelude.{◌↔◌}
-use Rattle.std.proofs.Common.{◌||◌, ◌&&◌, ◌==◌, Bool, true, false, ◌≡◌, ◌∙◌, ap, sym, subst, ℕ, ◌⊎◌, inl, inr, List, [], ◌∷◌, ◌++◌, Ok, IsTrue, refl, append-nil}
+use Rattle.std.proofs.Common.{◌||◌, ◌&&◌, ◌==◌, Bool, true, false, ◌≡◌, ◌∙◌, ap, sym, subst, ℕ, ◌⊎◌, inl, inr, List, [], ◌∷◌, ◌++◌, Option, Ok, IsTrue, refl, append-nil}
 use Rattle.jj_globs.specs.declared.glob.token.Token.{Token}
 use Rattle.jj_globs.specs.declared.glob.token.Token.TheVariants.{Part as part, Open, Or, Close}
 use Rattle.jj_globs.specs.declared.glob.token.Part.TheVariants.{Below}
 use Rattle.jj_globs.specs.declared.glob.token.Options.{Options}
 use Rattle.jj_globs.specs.declared.glob.step.Step.{Step}
+use Rattle.jj_globs.specs.declared.glob.bit_tables.BitTables.{BitTables}
 use Rattle.jj_globs.specs.GlobSyntax.{tokens_of}
 use Rattle.jj_globs.specs.GlobMeaning.{MatchesPart, Sequence, done, next, group, Alternatives, Reading, before, reading_of, IsConcatenation, Matches, MatchesAny, GlobSpec, IsMatch, IsPrefixMatch}
 use Rattle.jj_globs.specs.GlobBacktracking.{Test, Tests, many, any_byte, is_empty, part_then, test_before, tests_before, tests_of}
@@ -163,7 +164,7 @@ DecidesAll-below g ts reads = subst (λ (t : Tests). DecidesAll t.here (IsPrefix
 abbrev spec_of : List ℕ → Options → GlobSpec
 spec_of text o = record { text = text; options = o }
 
-module _ {text : List ℕ} {o : Options} {ts : List Token} {steps : List Step} {literal : ℕ} {prefix : List ℕ} (kept : IsCompiledGlob text o ts steps literal prefix)
+module _ {text : List ℕ} {o : Options} {ts : List Token} {steps : List Step} {literal : ℕ} {prefix : List ℕ} {tables : Option BitTables} (kept : IsCompiledGlob text o ts steps literal prefix tables)
     (shown : GlobSpec) (view : spec_of text o ≡ shown) (listed : List Step) (same : listed ≡ steps) (bs : List ℕ) (result : Bool) where
   decides_spec : (below : Bool) (M : GlobSpec → Bytes) → DecidesAll (tests_before o (end_test below) ts).here (M (spec_of text o)) → result ≡ accepts_from o below listed 0 bs
       → IsTrue result ↔ M shown bs

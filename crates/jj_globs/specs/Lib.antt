@@ -9,4 +9,5 @@ pub mod GlobNfa
 pub mod GlobCompilation
 pub mod GlobTrie
 pub mod GlobSuffix
+pub mod GlobTables
 pub mod GlobInvariant

@@ -1,6 +1,7 @@
 //! Globs over byte strings: a parser, a compiler to an NFA (Thompson's construction), and its
 //! simulation with bit sets.
 mod actions;
+mod bit_tables;
 mod byte_set;
 mod class;
 mod compiler;

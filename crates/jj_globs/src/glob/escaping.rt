@@ -6,7 +6,7 @@ ghost use Rattle.jj_globs.specs.GlobEscape.{MatchesOnly, literal_glob, escaped_b
 
 use std::alloc::{AllocError, Global};
 
-/// Whether the byte is one of `? * [ ] { } \`, which `escape` puts in brackets.
+/// Returns whether the byte is one of `? * [ ] { } \`, which `escape` puts in brackets.
 pub fn is_special(byte: u8) -> bool
     ensures { result ≡ is_special byte }
 {

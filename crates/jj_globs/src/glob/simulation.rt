@@ -161,7 +161,7 @@ fn advance<const WORDS: usize, const GROUPS: usize>(
 }
 
 // Whether the end accepts the remaining bytes: none, or with `below` those that begin with `/`.
-fn end_accepts(below: bool, left: &[u8]) -> bool
+pub(crate) fn end_accepts(below: bool, left: &[u8]) -> bool
     ensures { result ≡ end_test below left.now }
 {
     match left.first() {

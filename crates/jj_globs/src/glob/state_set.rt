@@ -114,7 +114,7 @@ fn clear_if_zero(summary: &mut [u64], word: usize, left: u64)
     }
 }
 
-fn lowest_bit(bits: u64) -> usize
+pub(crate) fn lowest_bit(bits: u64) -> usize
     requires some { bits ≢ 0 }
     ensures { (result < 64) × (bit_at bits result ≡ 1)
         × ((i : ℕ) → i < result → bit_at bits i ≡ 0) }

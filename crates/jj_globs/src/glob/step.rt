@@ -1,5 +1,5 @@
 //! Instructions of the NFA.
-ghost use Rattle.std.specs.Prelude.{◌≡◌, ◌+◌, ◌∷◌, ℕ, false, None, Some, IfSome};
+ghost use Rattle.std.specs.Prelude.{◌≡◌, ◌+◌, ◌∷◌, ℕ, true, false, None, Some, IfSome};
 ghost use Rattle.jj_globs.specs.GlobNfa.{step_at, consumes_byte};
 ghost use Rattle.jj_globs.specs.GlobBacktracking.{Test};
 
@@ -26,6 +26,18 @@ pub enum Step {
     Jump(usize),
 }
 
+impl Step {
+    // Whether the step consumes exactly one byte.
+    pub(crate) fn consumes_byte(&self) -> bool
+        ensures { result ≡ consumes_byte self.now }
+    {
+        match self {
+            Step::Byte(_) | Step::AnyByte | Step::OneOf(_) => true,
+            _ => false,
+        }
+    }
+}
+
 // Consumes the first byte by a step. Returns the bytes after it, `Some(None)` if the step does not
 // match it, and `None` if the step is none that consumes exactly one byte.
 pub(crate) fn consume_byte<'t>(
@@ -34,6 +46,7 @@ pub(crate) fn consume_byte<'t>(
     text: &'t [u8],
 ) -> Option<Option<&'t [u8]>>
     ensures none { result ≡ None → consumes_byte step.now ≡ false }
+    ensures some { IfSome result (λ taken. consumes_byte step.now ≡ true) }
     ensures same { IfSome result (λ taken. (P : ℕ → Test) (state : ℕ)
         → step_at options P step.now state text.now
         ≡ elim taken [ None ↦ false | Some rest ↦ P (state + 1) rest.now ]) }

@@ -68,7 +68,7 @@ pub enum Token {
 impl Options {
     ghost use Rattle.jj_globs.specs.GlobMeaning.{same_byte, is_plain};
 
-    /// Whether the bytes are equal, with `icase` up to ASCII case.
+    /// Returns whether the bytes are equal, with `icase` up to ASCII case.
     pub fn same_byte(self, a: u8, b: u8) -> bool
         ensures { result ≡ same_byte self a b }
     {
@@ -79,7 +79,7 @@ impl Options {
         }
     }
 
-    /// Whether `?` and `*` match the byte.
+    /// Returns whether `?` and `*` match the byte.
     pub fn is_plain(self, byte: u8) -> bool
         ensures { result ≡ is_plain self byte }
     {
@@ -100,7 +100,7 @@ impl ByteRange {
         }
     }
 
-    /// Whether the byte is in the range.
+    /// Returns whether the byte is in the range.
     pub fn contains(self, byte: u8) -> bool
         ensures { result ≡ in_range byte self }
     {
@@ -119,7 +119,7 @@ impl Class {
         Class { negated, ranges }
     }
 
-    /// Whether the class matches the bytes outside of its ranges.
+    /// Returns whether the class matches the bytes outside of its ranges.
     pub fn is_negated(&self) -> bool
         ensures { result ≡ self.now.0 }
     {

@@ -36,8 +36,8 @@ impl StringMatcher {
         StringMatcher::Exact(text)
     }
 
-    /// Whether the string matches. Allocates, and so can fail, only if the matcher contains a
-    /// regular expression, whose search is created anew at each call: for many strings, create a
+    /// Returns whether the string matches. Allocates, and so can fail, only if the matcher contains
+    /// a regular expression, whose search is created anew at each call: for many strings, create a
     /// `searcher`, which keeps it.
     pub fn is_match(&self, alloc: Global, haystack: &str) -> Result<bool, AllocError>
         ensures matches { IfOk result (λ yes. IsTrue yes ↔ InMatcher self.now haystack.now) }
@@ -46,9 +46,9 @@ impl StringMatcher {
         self.is_match_bytes(alloc, haystack.as_bytes())
     }
 
-    /// Whether the byte string matches. Allocates, and so can fail, only if the matcher contains a
-    /// regular expression, whose search is created anew at each call: for many strings, create a
-    /// `searcher`, which keeps it.
+    /// Returns whether the byte string matches. Allocates, and so can fail, only if the matcher
+    /// contains a regular expression, whose search is created anew at each call: for many strings,
+    /// create a `searcher`, which keeps it.
     pub fn is_match_bytes(&self, alloc: Global, haystack: &[u8]) -> Result<bool, AllocError>
         ensures matches { IfOk result (λ yes. IsTrue yes ↔ InMatcher self.now haystack.now) }
         ensures memory { IsErr result → MayAllocate self.now }

@@ -146,8 +146,8 @@ impl StringPattern {
         }
     }
 
-    /// Whether the pattern trivially matches every string: an empty substring, an empty regular
-    /// expression, or the glob `*`.
+    /// Returns whether the pattern trivially matches every string: an empty substring, an empty
+    /// regular expression, or the glob `*`.
     pub fn is_all(&self) -> bool
         ensures { result ≡ is_all (pattern_of self.now) }
     {
@@ -163,7 +163,7 @@ impl StringPattern {
         }
     }
 
-    /// Whether the pattern is exact.
+    /// Returns whether the pattern is exact.
     pub fn is_exact(&self) -> bool
         ensures { result ≡ is_some (exact_string (pattern_of self.now)) }
     {

@@ -40,7 +40,7 @@ impl<'m> StringSearcher<'m> {
     ghost use Rattle.jj_strings.specs.StringMatchers.{InMatcher, MayAllocate};
     ghost use Rattle.jj_strings.specs.Searchers.{searcher_matcher};
 
-    /// Whether the string matches. After an allocation failure the call may be repeated.
+    /// Returns whether the string matches. After an allocation failure the call may be repeated.
     pub fn is_match(&mut self, haystack: &str) -> Result<bool, AllocError>
         ensures matches { IfOk result (λ yes. IsTrue yes
             ↔ InMatcher (searcher_matcher self.old) haystack.now) }
@@ -50,7 +50,8 @@ impl<'m> StringSearcher<'m> {
         self.is_match_bytes(haystack.as_bytes())
     }
 
-    /// Whether the byte string matches. After an allocation failure the call may be repeated.
+    /// Returns whether the byte string matches. After an allocation failure the call may be
+    /// repeated.
     pub fn is_match_bytes(&mut self, haystack: &[u8]) -> Result<bool, AllocError>
         ensures matches { IfOk result (λ yes. IsTrue yes
             ↔ InMatcher (searcher_matcher self.old) haystack.now) }

@@ -1,6 +1,8 @@
 use Rattle.std.proofs.Common.{◌≡◌, ◌+◌, ◌∙◌, ◌∷◌, ◌<◌, ap, sym, refl, false, None, Some, List, length, arith, subst}
 use Rattle.jj_globs.specs.declared.glob.step.Step.{Step}
 use Rattle.jj_globs.specs.GlobNfa.{accepts_from, TargetsInRange}
+use Rattle.jj_globs.specs.GlobTables.{after_bytes}
+use Rattle.jj_globs.proofs.BitTables.{after_bytes-skip}
 use Rattle.jj_globs.proofs.CompiledTokens.{inside_after}
 use Rattle.jj_globs.proofs.StateTests.{at_step, later}
 use Rattle.jj_globs.proofs.glob.pattern.nfa_accepts.Goals as goal
@@ -26,6 +28,7 @@ loop-step-preserved c =
           ∙ ap (λ (ss : List Step). accepts_from o c.args.below ss 0 c.loop-step.text.now) split ∙ taken;
       inside = inside_after step after (subst (λ (ss : List Step). TargetsInRange ss) split known.inside);
       size = omega (arith, shorter, size);
+      rest = sym (after_bytes-skip step after c.in-Some-consume_byte.ensures.some) ∙ ap after_bytes (sym split) ∙ known.rest;
     }
 
 pub returns-in_default-taken : goal.returns-in_default-taken
