@@ -1,5 +1,5 @@
 -- The preorder list of the nodes below a directory, by its first branch and the rest.
-use Rattle.std.proofs.Common.{◌≡◌, Bool, true, false, List, [], ◌∷◌, ◌++◌, refl, ap, sym, subst, ◌∙◌, append_assoc, append-nil}
+use Rattle.std.proofs.Common.{◌≡◌, Bool, true, false, List, [], ◌∷◌, ◌++◌, refl, ap, sym, subst, ◌∙◌, append_assoc}
 use Rattle.std.specs.declared.cmp.Ordering.TheVariants.{Less}
 use Rattle.std.specs.List.{AllByRecursion}
 use Rattle.std.specs.List.Sorted.{IsStrictlySortedBy}
@@ -12,12 +12,6 @@ use Rattle.jj_paths.specs.Tree.{Tree, tree_of, Branches, none, branch, branches_
 use Rattle.jj_paths.specs.Nodes.{NodeAt, node_at, nodes_under}
 use Rattle.jj_matchers.specs.Walk.{paths_where, path_if}
 use Rattle.jj_paths.proofs.PathOrders.{before_name, before_below, less_from_is_lt, all-append, sorted-append, sorted-cons, sorted_none}
-
-pub path_if_true : (t : Bool) (path : Path) (found new : List Path) → t ≡ true → new ≡ found ++ path ∷ [] → new ≡ found ++ path_if t path
-path_if_true t path found new e is = rw e is
-
-pub path_if_false : (t : Bool) (path : Path) (found new : List Path) → t ≡ false → new ≡ found → new ≡ found ++ path_if t path
-path_if_false t path found new e is = rw e (is ∙ sym (append-nil found))
 
 pub all_path_if : (P : Path → Type 0) (t : Bool) (path : Path) → (t ≡ true → P path) → AllByRecursion P (path_if t path)
 all_path_if P true path h = (h refl, tt)

@@ -17,14 +17,10 @@ use Rattle.jj_matchers.specs.Walk.{paths_where, entered_by, is_file, is_entered,
 use Rattle.jj_matchers.specs.WalkInvariants.{paths_below, DeterminesWalk, PushesFrame, IsNewFrame, IsValidFrame, WalkInvariant, CompletesTo, pending_in, pending_paths, walk_measure, with_left}
 use Rattle.std.specs.declared.cmp.Ordering.TheVariants.{Less}
 use Rattle.jj_paths.proofs.PathOrders.{sorted_none, sorted-cons, before_below, all-append}
-use Rattle.jj_matchers.proofs.PreorderPaths.{path_if_true, path_if_false, branches_of-children, paths_where_first, found_step, ordered_step, none_below, nothing_below, all_anywhere}
+use Rattle.jj_matchers.proofs.PreorderPaths.{branches_of-children, paths_where_first, found_step, ordered_step, none_below, nothing_below, all_anywhere}
 
 false_and : (a b : Bool) → b ≡ false → (a && b) ≡ false
 false_and a b e = rw e (and-false a)
-
--- the path of a child, up to equalities
-pub joined_at : (dir at : Path) (name here : Name) (path : Path) → path ≡ at ++ here ∷ [] → at ≡ dir → here ≡ name → path ≡ dir ++ name ∷ []
-joined_at dir at name here path joined d n = joined ∙ ap (λ p. p ++ here ∷ []) d ∙ ap (λ x. dir ++ x ∷ []) n
 
 module _ (accepts opens : Path → Bool) (visit : Path → VisitSpec) where
   -- the visit of the root determines the walk
@@ -254,41 +250,43 @@ module _ (accepts opens : Path → Bool) (visit : Path → VisitSpec) (tree : Tr
       by_entry (inr h) = same_way [] new_files new_entered new_entered (h.0 ∷ []) new_stack (same ∙ f) refl (h.3 ∙ ap (λ l. l ++ h.0 ∷ []) u) (way_at_root known on has h.0 new_entered (h.2 ∙ ap (λ l. l ++ [] ∷ []) e) h.1)
 
   module _ (files entered : List Path) (further : List Frame) (directory : Frame) (name : Name) (sub : Tree Bool) (after : Bor (List (Name × Tree Bool))) (left : directory.left.now ≡ (name, sub) ∷ after.now)
-      (path asked : Path) (new_files old_entered : List Path) (at : path ≡ directory.dir ++ name ∷ []) (same : asked ≡ path)
-      (file_is : new_files ≡ files ++ path_if (is_file accepts (node_at asked sub)) asked) (e : old_entered ≡ entered) where
-    own_file : new_files ≡ files ++ path_if (is_file accepts (node_at (directory.dir ++ name ∷ []) sub)) (directory.dir ++ name ∷ [])
-    own_file = subst (λ (p : Path). new_files ≡ files ++ path_if (is_file accepts (node_at p sub)) p) (same ∙ at) file_is
-
+      (new_files old_entered : List Path) (file_is : new_files ≡ files ++ path_if (is_file accepts (node_at (directory.dir ++ name ∷ []) sub)) (directory.dir ++ name ∷ [])) (e : old_entered ≡ entered) where
     -- a step at a child without children
     pub goes_on_past : (stack : List Frame) → stack ≡ further ++ with_left directory after ∷ [] → has_branches sub.branches ≡ false →
         WalkInvariant accepts opens visit tree files entered (further ++ directory ∷ []) → WalkInvariant accepts opens visit tree new_files old_entered stack
     goes_on_past stack u none way =
         subst (WalkInvariant accepts opens visit tree new_files old_entered) (sym u)
-        (way_past accepts opens visit tree files entered further directory (with_left directory after) name sub after.now left refl refl refl new_files old_entered own_file
+        (way_past accepts opens visit tree files entered further directory (with_left directory after) name sub after.now left refl refl refl new_files old_entered file_is
         (not_without_children accepts opens visit (directory.dir ++ name ∷ []) sub none) e
         (nothing_below (is_file accepts) (directory.dir ++ name ∷ []) sub.branches none) (nothing_below (is_entered_directory visit) (directory.dir ++ name ∷ []) sub.branches none) way)
 
-    -- a step at a child with children
-    pub goes_on_below : (new_entered : List Path) (stack new_stack : List Frame) (below : Path) (known : VisitSpec) → stack ≡ further ++ with_left directory after ∷ [] → below ≡ path →
-        has_branches sub.branches ≡ true → DeterminesWalk accepts opens visit below known → (is_entered known ≡ true → opens below ≡ true) → PushesFrame path known sub old_entered new_entered stack new_stack →
+    -- a step at a child with children, below which nothing is accepted
+    pub goes_on_without : (stack : List Frame) → stack ≡ further ++ with_left directory after ∷ [] → has_branches sub.branches ≡ true → DeterminesWalk accepts opens visit (directory.dir ++ name ∷ []) nothing →
+        WalkInvariant accepts opens visit tree files entered (further ++ directory ∷ []) → WalkInvariant accepts opens visit tree new_files old_entered stack
+    goes_on_without stack u has on way =
+        subst (WalkInvariant accepts opens visit tree new_files old_entered) (sym u)
+        (way_past accepts opens visit tree files entered further directory (with_left directory after) name sub after.now left refl refl refl new_files old_entered file_is
+        (entered_itself accepts opens visit (directory.dir ++ name ∷ []) sub nothing on has) e
+        (no_files accepts opens visit (directory.dir ++ name ∷ []) sub on) (none_entered accepts opens visit (directory.dir ++ name ∷ []) sub on) way)
+
+    -- a step at a child with children and a visit
+    pub goes_on_below : (new_entered : List Path) (stack new_stack : List Frame) (path : Path) (known : VisitSpec) → stack ≡ further ++ with_left directory after ∷ [] → path ≡ directory.dir ++ name ∷ [] →
+        has_branches sub.branches ≡ true → DeterminesWalk accepts opens visit path known → (is_entered known ≡ true → opens path ≡ true) → PushesFrame path known sub old_entered new_entered stack new_stack →
         WalkInvariant accepts opens visit tree files entered (further ++ directory ∷ []) → WalkInvariant accepts opens visit tree new_files new_entered new_stack
-    goes_on_below new_entered stack new_stack below known u at' has goes open_there walk_enters way =
+    goes_on_below new_entered stack new_stack path known u at has goes open_there walk_enters way =
         by_entry (subst (λ p. PushesFrame p known sub old_entered new_entered stack new_stack) at walk_enters)
       where
         on : DeterminesWalk accepts opens visit (directory.dir ++ name ∷ []) known
-        on = subst (λ p. DeterminesWalk accepts opens visit p known) (at' ∙ at) goes
+        on = subst (λ p. DeterminesWalk accepts opens visit p known) at goes
 
         by_entry : PushesFrame (directory.dir ++ name ∷ []) known sub old_entered new_entered stack new_stack → WalkInvariant accepts opens visit tree new_files new_entered new_stack
         by_entry (inl h) =
-            let none : DeterminesWalk accepts opens visit (directory.dir ++ name ∷ []) nothing = subst (DeterminesWalk accepts opens visit (directory.dir ++ name ∷ [])) (no_entry known h.0) on in
-            same_way new_files new_files new_entered new_entered (further ++ with_left directory after ∷ []) new_stack refl refl (h.2 ∙ u)
-            (way_past accepts opens visit tree files entered further directory (with_left directory after) name sub after.now left refl refl refl new_files new_entered own_file
-            (entered_itself accepts opens visit (directory.dir ++ name ∷ []) sub known on has ∙ h.0) (h.1 ∙ e)
-            (no_files accepts opens visit (directory.dir ++ name ∷ []) sub none) (none_entered accepts opens visit (directory.dir ++ name ∷ []) sub none) way)
+            subst (λ l. WalkInvariant accepts opens visit tree new_files l new_stack) (sym h.1)
+            (goes_on_without new_stack (h.2 ∙ u) has (subst (DeterminesWalk accepts opens visit (directory.dir ++ name ∷ [])) (no_entry known h.0) on) way)
         by_entry (inr h) =
             same_way new_files new_files new_entered new_entered ((further ++ with_left directory after ∷ []) ++ h.0 ∷ []) new_stack refl refl (h.3 ∙ ap (λ s. s ++ h.0 ∷ []) u)
-            (way_below accepts opens visit tree files entered further directory (with_left directory after) name sub after.now left refl refl refl new_files new_entered own_file
-            h.0 known on h.1 has (ap opens (sym (at' ∙ at)) ∙ open_there h.1.entered) (h.2 ∙ ap (λ s. s ++ (directory.dir ++ name ∷ []) ∷ []) e) way)
+            (way_below accepts opens visit tree files entered further directory (with_left directory after) name sub after.now left refl refl refl new_files new_entered file_is
+            h.0 known on h.1 has (ap opens (sym at) ∙ open_there h.1.entered) (h.2 ∙ ap (λ s. s ++ (directory.dir ++ name ∷ []) ∷ []) e) way)
 
 -- each step decreases the termination measure
 pub less_finished : (further : List Frame) (directory : Frame) → walk_measure further < walk_measure (further ++ directory ∷ [])
@@ -316,14 +314,3 @@ module _ (further : List Frame) (directory next : Frame) (name : Name) (sub : Tr
 pub no_length : {X : Type 0} (xs : List X) → length xs ≡ 0 → xs ≡ []
 no_length [] e = refl
 no_length (x ∷ xs) e = absurd (omega arith)
-
--- the files after a child is checked
-pub file_taken : (accepts : Path → Bool) (sub : Tree Bool) (child path : Path) (files new : List Path) → sub.value ≡ true → accepts path ≡ true → path ≡ child → new ≡ files ++ path ∷ [] → new ≡ files ++ path_if (is_file accepts (node_at child sub)) child
-file_taken accepts sub child path files new marked accepted at is =
-    path_if_true (sub.value && accepts child) child files new (ap (λ b. b && accepts child) marked ∙ ap accepts (sym at) ∙ accepted) (is ∙ ap (λ p. files ++ p ∷ []) at)
-
-pub file_unmarked : (accepts : Path → Bool) (sub : Tree Bool) (child : Path) (files new : List Path) → sub.value ≡ false → new ≡ files → new ≡ files ++ path_if (is_file accepts (node_at child sub)) child
-file_unmarked accepts sub child files new unmarked is = path_if_false (sub.value && accepts child) child files new (ap (λ b. b && accepts child) unmarked) is
-
-pub file_refused : (accepts : Path → Bool) (sub : Tree Bool) (child path : Path) (files new : List Path) → accepts path ≡ false → path ≡ child → new ≡ files → new ≡ files ++ path_if (is_file accepts (node_at child sub)) child
-file_refused accepts sub child path files new refused at is = path_if_false (sub.value && accepts child) child files new (false_and sub.value _ (ap accepts (sym at) ∙ refused)) is

@@ -1,17 +1,18 @@
 -- Loop invariant of `walk_matching`: the stack of unfinished directories, and the files and
 -- directories still to be found below them.
 -- Machinery of private functions and fields.
-use Rattle.std.specs.Prelude.{◌≡◌, ◌⊎◌, ◌+◌, ◌*◌, ℕ, Bool, true, false, List, [], ◌∷◌, ◌++◌}
+use Rattle.std.specs.Prelude.{◌≡◌, ◌⊎◌, ◌+◌, ◌*◌, ℕ, Bool, true, false, List, [], ◌∷◌, ◌++◌, Option, Some, None}
 use Rattle.std.specs.Borrow.{Bor}
 use Rattle.std.specs.List.{AllByRecursion}
 use Rattle.std.specs.FinMap.{is_sorted}
 use Rattle.jj_paths.specs.Paths.{Name, Path, name_cmp}
 use Rattle.jj_paths.specs.Tree.{Tree, branches_of, branch_count, children}
 use Rattle.jj_paths.specs.Nodes.{NodeAt, nodes_under}
-use Rattle.jj_matchers.specs.VisitSpecs.{VisitSpec, IsSound}
+use Rattle.jj_matchers.specs.VisitSpecs.{VisitSpec, IsSound, nothing}
 use Rattle.jj_matchers.specs.Visits.{visit_spec}
 use Rattle.jj_matchers.specs.Walk.{AreInOrder, paths_where, files_of, entered_by, is_file, is_entered, is_entered_directory, continues_into, walk_enters}
 use Rattle.jj_matchers.specs.declared.matchers.tree_walk.Frame.{Frame}
+use Rattle.jj_matchers.specs.declared.matchers.visits.Visit.{Visit}
 
 -- the paths of the nodes strictly below a directory that satisfy a predicate
 abbrev pub paths_below : (NodeAt Bool → Bool) → Path → Tree Bool → List Path
@@ -25,6 +26,14 @@ pub record DeterminesWalk (accepts opens : Path → Bool) (visit : Path → Visi
   pub itself : walk_enters visit [] dir ≡ is_entered known
   pub below : (name : Name) (rest : Path) → walk_enters visit [] (dir ++ name ∷ rest)
       ≡ continues_into known name (walk_enters visit (dir ++ name ∷ []) rest)
+
+-- the path and the visit of a child, or none if no path below it is accepted
+abbrev pub IsChildVisit : (Path → Bool) → (Path → Bool) → (Path → VisitSpec) → Path
+    → Option (Path × Visit) → Type 0
+IsChildVisit accepts opens visit child None = DeterminesWalk accepts opens visit child nothing
+IsChildVisit accepts opens visit child (Some found) = (found.0 ≡ child)
+    × DeterminesWalk accepts opens visit found.0 (visit_spec found.1)
+    × (is_entered (visit_spec found.1) ≡ true → opens found.0 ≡ true)
 
 -- the stack frame of a directory that was entered with this visit, before its first child
 pub record IsNewFrame (dir : Path) (known : VisitSpec) (tree : Tree Bool)

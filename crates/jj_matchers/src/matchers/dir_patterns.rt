@@ -15,7 +15,7 @@ use std::marker::Model;
 #[derive(Debug, Drop)]
 pub struct DirPatterns {
     patterns: Option<Vec<PathGlobPattern>>,
-    // whether they are known to be sorted by literal prefix
+    // Whether the patterns are known to be sorted by literal prefix.
     is_sorted: bool,
 }
 

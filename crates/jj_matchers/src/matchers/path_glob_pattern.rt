@@ -88,7 +88,7 @@ impl PathGlobPattern {
         }
     }
 
-    // the literal prefix, with which every match begins
+    // Returns the literal prefix, with which every match begins.
     pub(super) fn literal_prefix(&self) -> &[u8]
         ensures { result.now ≡ glob_prefix self.now }
     {

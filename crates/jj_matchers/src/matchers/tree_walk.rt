@@ -1,15 +1,14 @@
 //! Iterative depth-first traversal of a tree of marked paths, pruned by a matcher.
-ghost use Rattle.std.specs.Prelude.{◌≡◌, ◌<◌, ◌⊎◌, Bool, true, List, [], ◌∷◌, ◌++◌, IfOk, OnOk, All};
-ghost use Rattle.jj_paths.specs.Names.{path_of};
+ghost use Rattle.std.specs.Prelude.{◌≡◌, ◌<◌, ◌⊎◌, Bool, true, false, List, [], ◌∷◌, ◌++◌, IfOk, OnOk, MatchOption, All};
 ghost use Rattle.jj_paths.specs.Tree.{Tree};
 ghost use Rattle.jj_paths.specs.Nodes.{node_at};
 ghost use Rattle.jj_matchers.specs.VisitSpecs.{IsSound};
 ghost use Rattle.jj_matchers.specs.Visits.{visit_spec};
-ghost use Rattle.jj_matchers.specs.Walk.{AreInOrder, files_of, entered_by, is_entered, is_file, path_if};
-ghost use Rattle.jj_matchers.specs.WalkInvariants.{DeterminesWalk, PushesFrame, IsValidFrame, WalkInvariant, walk_measure, with_left};
+ghost use Rattle.jj_matchers.specs.Walk.{AreInOrder, files_of, entered_by, is_file, path_if};
+ghost use Rattle.jj_matchers.specs.WalkInvariants.{DeterminesWalk, IsChildVisit, PushesFrame, IsValidFrame, WalkInvariant, walk_measure, with_left};
 
 use crate::matchers::{Matcher, Visit};
-use jj_paths::repo_path::{RepoPath, RepoPathBuf, RepoPathComponentBuf};
+use jj_paths::repo_path::{RepoPathBuf, RepoPathComponentBuf};
 use jj_paths::repo_path_tree::RepoPathTree;
 use std::alloc::{AllocError, Global};
 
@@ -103,16 +102,16 @@ fn visit_next_child<'t, M: Matcher>(
     let Some((child, left)) = directory.left.split_first() else {
         return Ok(());
     };
-    let path = directory.dir.as_path().join(alloc, child.0.as_component())?;
-    push_file(alloc, &directory, child, path.as_path(), matcher, walk)?;
+    push_file(alloc, &directory, child, matcher, walk)?;
     let (name, sub) = child;
     if !sub.has_children() {
         return push_frame(stack, directory, left);
     }
-    let (dir, visit) = (&directory.dir, &directory.visit);
-    let below = child_visit(alloc, dir, visit, name, path.as_path(), matcher)?;
+    let Some((path, visit)) = child_visit(alloc, &directory, name, matcher)? else {
+        return push_frame(stack, directory, left);
+    };
     push_frame(stack, directory, left)?;
-    enter(alloc, sub, path, below, walk, stack)?;
+    enter(alloc, sub, path, visit, walk, stack)?;
     Ok(())
 }
 
@@ -131,39 +130,30 @@ fn push_frame<'t>(
     Ok(())
 }
 
-// Appends a copy of a path.
-fn push_path(
-    alloc: Global,
-    paths: &mut Vec<RepoPathBuf>,
-    path: RepoPath<'_>,
-) -> Result<(), AllocError>
-    ensures { OnOk result (paths.new.items ≡ paths.old.items ++ path_of path.entry ∷ []) }
-{
-    paths.push(path.to_owned(alloc)?)?;
-    Ok(())
-}
-
 // Adds the child to the files, if it is marked and accepted.
 fn push_file<M: Matcher>(
     alloc: Global,
     directory: &Frame<'_>,
     child: &(RepoPathComponentBuf, RepoPathTree<bool>),
-    path: RepoPath<'_>,
     matcher: &M,
     walk: &mut Walk,
 ) -> Result<(), AllocError>
-    requires at { path_of path ≡ directory.now.dir ++ child.now.0 ∷ [] }
-    requires sound { IsSound (M.accepts matcher.now) (M.opens matcher.now) directory.now.dir
+    requires { IsSound (M.accepts matcher.now) (M.opens matcher.now) directory.now.dir
         (visit_spec directory.now.visit) }
     ensures files { OnOk result (walk.new.files.items ≡ walk.old.files.items
-        ++ path_if (is_file (M.accepts matcher.now) (node_at (path_of path.entry) child.now.1))
-        (path_of path.entry)) }
+        ++ path_if (is_file (M.accepts matcher.now)
+        (node_at (directory.now.dir ++ child.now.0 ∷ []) child.now.1))
+        (directory.now.dir ++ child.now.0 ∷ [])) }
     ensures entered { OnOk result (walk.new.entered.items ≡ walk.old.entered.items) }
 {
     let (name, sub) = child;
-    if *sub.value() && is_accepted(&directory.dir, &directory.visit, name, path, matcher) {
-        push_path(alloc, &mut walk.files, path)?;
+    if !*sub.value() {
+        return Ok(());
     }
+    let Some(path) = accepted_path(alloc, directory, name, matcher)? else {
+        return Ok(());
+    };
+    walk.files.push(path)?;
     Ok(())
 }
 
@@ -184,7 +174,7 @@ fn enter<'t>(
     if visit.is_nothing() {
         return Ok(());
     }
-    push_path(alloc, &mut walk.entered, dir.as_path())?;
+    walk.entered.push(dir.as_path().to_owned(alloc)?)?;
     stack.push(Frame {
         dir,
         visit,
@@ -193,52 +183,75 @@ fn enter<'t>(
     Ok(())
 }
 
-// Returns whether a child is accepted. Calls the matcher only for a file of a `Specific` visit.
-fn is_accepted<M: Matcher>(
-    dir: &RepoPathBuf,
-    visit: &Visit,
+// Returns the path of a child, if it is accepted. Joins the path only if the visit does not already
+// exclude the child, and calls the matcher only for a file of a `Specific` visit.
+fn accepted_path<M: Matcher>(
+    alloc: Global,
+    directory: &Frame<'_>,
     name: &RepoPathComponentBuf,
-    path: RepoPath<'_>,
     matcher: &M,
-) -> bool
-    requires at { path_of path ≡ dir.now ++ name.now ∷ [] }
-    requires sound { IsSound (M.accepts matcher.now) (M.opens matcher.now) dir.now
-        (visit_spec visit.now) }
-    ensures { result ≡ M.accepts matcher.now (path_of path.entry) }
+) -> Result<Option<RepoPathBuf>, AllocError>
+    requires { IsSound (M.accepts matcher.now) (M.opens matcher.now) directory.now.dir
+        (visit_spec directory.now.visit) }
+    ensures { IfOk result (λ accepted. MatchOption accepted
+        (M.accepts matcher.now (directory.now.dir ++ name.now ∷ []) ≡ false)
+        (λ path. (path ≡ directory.now.dir ++ name.now ∷ [])
+        × (M.accepts matcher.now (directory.now.dir ++ name.now ∷ []) ≡ true))) }
 {
-    match visit {
-        Visit::AllRecursively => true,
-        Visit::Specific { dirs: _, files } => files.contains(name) && matcher.matches(path),
-        Visit::Nothing => false,
+    match &directory.visit {
+        Visit::AllRecursively => Ok(Some(child_path(alloc, directory, name)?)),
+        Visit::Specific { dirs: _, files } => {
+            if !files.contains(name) {
+                return Ok(None);
+            }
+            let path = child_path(alloc, directory, name)?;
+            if matcher.matches(path.as_path()) {
+                Ok(Some(path))
+            } else {
+                Ok(None)
+            }
+        }
+        Visit::Nothing => Ok(None),
     }
 }
 
-// Returns the visit of a child. Calls the matcher only for a directory of a `Specific` visit.
+// Returns the path and the visit of a child, or `None` if no path below it is accepted. Calls the
+// matcher only for a directory of a `Specific` visit.
 fn child_visit<M: Matcher>(
     alloc: Global,
-    dir: &RepoPathBuf,
-    visit: &Visit,
+    directory: &Frame<'_>,
     name: &RepoPathComponentBuf,
-    path: RepoPath<'_>,
     matcher: &M,
-) -> Result<Visit, AllocError>
-    requires at { path_of path ≡ dir.now ++ name.now ∷ [] }
-    requires above { DeterminesWalk (M.accepts matcher.now) (M.opens matcher.now)
-        (M.visits matcher.now) dir.now (visit_spec visit.now) }
-    ensures below { IfOk result (λ below. DeterminesWalk (M.accepts matcher.now)
-        (M.opens matcher.now) (M.visits matcher.now) (path_of path.entry) (visit_spec below)) }
-    ensures open { IfOk result (λ below. is_entered (visit_spec below) ≡ true
-        → M.opens matcher.now (path_of path.entry) ≡ true) }
+) -> Result<Option<(RepoPathBuf, Visit)>, AllocError>
+    requires { DeterminesWalk (M.accepts matcher.now) (M.opens matcher.now)
+        (M.visits matcher.now) directory.now.dir (visit_spec directory.now.visit) }
+    ensures { IfOk result (IsChildVisit (M.accepts matcher.now) (M.opens matcher.now)
+        (M.visits matcher.now) (directory.now.dir ++ name.now ∷ [])) }
 {
-    match visit {
-        Visit::AllRecursively => Ok(Visit::AllRecursively),
-        Visit::Specific { dirs, files: _ } => {
-            if dirs.contains(name) {
-                matcher.visit(alloc, path)
-            } else {
-                Ok(Visit::Nothing)
-            }
+    match &directory.visit {
+        Visit::AllRecursively => {
+            let path = child_path(alloc, directory, name)?;
+            Ok(Some((path, Visit::AllRecursively)))
         }
-        Visit::Nothing => Ok(Visit::Nothing),
+        Visit::Specific { dirs, files: _ } => {
+            if !dirs.contains(name) {
+                return Ok(None);
+            }
+            let path = child_path(alloc, directory, name)?;
+            let visit = matcher.visit(alloc, path.as_path())?;
+            Ok(Some((path, visit)))
+        }
+        Visit::Nothing => Ok(None),
     }
+}
+
+// Returns the path of a child.
+fn child_path(
+    alloc: Global,
+    directory: &Frame<'_>,
+    name: &RepoPathComponentBuf,
+) -> Result<RepoPathBuf, AllocError>
+    ensures { IfOk result (λ path. path ≡ directory.now.dir ++ name.now ∷ []) }
+{
+    directory.dir.as_path().join(alloc, name.as_component())
 }
