@@ -26,7 +26,7 @@ use Rattle.jj_program.proofs.NumberedWalks.{id_within, numbered, numbers_apart, 
 abbrev pub walk_over : ListedGraph → GraphModel ℕ ℕ
 walk_over g = numbered (shown_by g) (named_by g)
 
--- neighbours of ids are ids
+-- neighbors of ids are ids
 pub closed_over : (g : ListedGraph) (a : ℕ) → has (named_by g) a ≡ true → AreNodes (walk_over g) (shown_by g a)
 closed_over g a is b h = holds_more g.edges (named_by g) g.among a b h
 
@@ -37,7 +37,7 @@ YieldsNodes = DrainsTo (λ s t. t ≡ s) (copies fronts)
 abbrev YieldsItems : SoundNodes → List ℕ → Type 0
 YieldsItems r xs = DrainsTo (λ s t. t ≡ s) (YieldsFirst sound_left) r (map Ok xs)
 
--- a successful result with the neighbours
+-- a successful result with the neighbors
 abbrev HoldsRow : ListedGraph → ℕ → Result (Copied (Iter ℕ)) ℕ → Type 0
 HoldsRow g number r = IsOkAnd r (λ list. IsRowOf g number (iter_rest (copied_source list)))
 
@@ -66,7 +66,7 @@ module _ (g : ListedGraph) {F N : Type 0}
         ));
   }
 
-  -- a closure that returns the neighbours
+  -- a closure that returns the neighbors
   pub implements_lists : (lists : Mut N (Bor ℕ × Unit {0}) (Copied (Iter ℕ)))
       → ((a : Bor ℕ × Unit {0}) (r : Copied (Iter ℕ)) (after : N) → Called lists neighbors_fn a r after
       → IsRowOf g a.0.now (iter_rest (copied_source r)) × (after ≡ neighbors_fn))

@@ -1,4 +1,4 @@
--- Adjacency lists as parts of one array: what one more line adds, and that the array has all neighbours.
+-- Adjacency lists as parts of one array: what one more line adds, and that the array has all neighbors.
 use Rattle.std.proofs.Common.{rules, Equal, Greater, Less, nat_lt, Result, Ok, Err, OnOk, ◌≡◌, ◌∙◌, ◌==◌, ◌-◌, ◌<◌, ◌≤◌, ◌≢◌, ℕ, zero, suc, Bool, true, false, cond, List, [], ◌∷◌, ◌++◌, length, length-append, get_or, take, drop, map, Option, Some, None, refl, sym, ap, subst, arith, ⊎_elim, true≢false}
 use Rattle.std.specs.Prelude.{All, OnErr, if◌then◌else◌, is_some, not, unwrap_or, MatchBool, MatchOption}
 use Rattle.std.specs.BTreeMap.{BTreeMap, get, is_at}
@@ -333,7 +333,7 @@ holds_put r edges m2 id start end n none not_above not_below puts unchanged firs
   parts_put r edges.ascending.items edges.others m2 edges.targets.items id start end n edges.within first last le none puts unchanged,
 )
 
--- ---- all neighbours
+-- ---- all neighbors
 
 -- a member of a part is a member of the list
 part_among : (targets : List ℕ) (a b x : ℕ) → Contains (slice_range targets a b) x → Contains targets x
@@ -348,7 +348,7 @@ edges_hold edges a b = by_part (part_in edges.ascending.items edges.others a)
     by_part None (k, within, e) = absurd (omega arith)
     by_part (Some part) among = has-from_Contains edges.targets.items b (part_among edges.targets.items part.0 part.1 b among)
 
--- ids that contain the targets contain each neighbour
+-- ids that contain the targets contain each neighbor
 pub holds_more : (edges : Edges) (ids : List ℕ) → HoldsEach edges.targets.items ids → HoldsNeighbors (graph_of (listed_by edges)) ids
 holds_more edges ids held a b among = held b (Contains-from_has edges.targets.items b (edges_hold edges a b among))
 
@@ -359,7 +359,7 @@ holds_each ids some held b among = has-from_Contains ids b (All-contains (Contai
 pub targets_named : (ids numbers targets : List ℕ) → map (id_of ids) numbers ≡ targets → HoldsEach targets ids → (a : ℕ) → Contains (map (id_of ids) numbers) a → has ids a ≡ true
 targets_named ids numbers targets same held a inside = held a (subst (λ xs. Contains xs a) same inside)
 
--- the numbers in the part of an id are those of its neighbours
+-- the numbers in the part of an id are those of its neighbors
 pub part_named : (edges : Edges) (name : ℕ → ℕ) (numbers : List ℕ) (id : ℕ) (part : ℕ × ℕ) → map name numbers ≡ edges.targets.items → part ≡ part_at edges id
     → map name (slice_range numbers part.0 part.1) ≡ graph_of (listed_by edges) id
 part_named edges name numbers id part named at =

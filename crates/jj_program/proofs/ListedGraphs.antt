@@ -24,7 +24,7 @@ use Rattle.jj_dag.proofs.Walking.{drained_are, eqb-flip, Contains-from_has}
 use Rattle.jj_program.specs.GraphCommand.{HasCycle}
 use Rattle.std.specs.List.{list_any, Contains}
 
--- every neighbour is one of these ids
+-- every neighbor is one of these ids
 abbrev pub HoldsNeighbors : Graph → List ℕ → Type 0
 HoldsNeighbors graph ids = (a b : ℕ) → Contains (graph a) b
     → list_any (λ id. b == id) ids ≡ true

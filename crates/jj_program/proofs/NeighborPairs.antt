@@ -1,4 +1,4 @@
--- Signed counts while the terms of a merge are collected and equal neighbours cancel.
+-- Signed counts while the terms of a merge are collected and equal neighbors cancel.
 use Rattle.std.proofs.Common.{◌≡◌, ◌∙◌, ℕ, ◌+◌, ◌%◌, ◌<◌, Bool, true, List, [], ◌∷◌, ◌++◌, cond, length, take, ap, arith, get_or}
 use Rattle.std.specs.Prelude.{count_by}
 use Rattle.std.proofs.lemmas.List.{length-take-le, take_all, take_more}

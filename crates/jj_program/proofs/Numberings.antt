@@ -17,10 +17,10 @@ rises ids up i j le within =
     (cases_eq i j)
 
 -- an unsuccessful search means that the id is not in the list
-pub none_missed : (ids : List ℕ) (id place : ℕ) → IsStrictlyIncreasing ids
-    → IsBinarySearchResult (λ y. nat_cmp y id) ids (Err place) → Contains ids id → ⊥
-none_missed ids id place up missed (k, within, is) =
+pub none_missed : (ids : List ℕ) (id index : ℕ) → IsStrictlyIncreasing ids
+    → IsBinarySearchResult (λ y. nat_cmp y id) ids (Err index) → Contains ids id → ⊥
+none_missed ids id index up missed (k, within, is) =
     let at : get_or ids k 0 ≡ id = sym (get_or_default_zero ids k id within) ∙ is in
-    let (end, before, after) = searched ids id (Err place) missed (rises ids up) in
+    let (end, before, after) = searched ids id (Err index) missed (rises ids up) in
     ⊎_elim (λ less. let below = before k less in omega (arith, at, below))
-    (λ more. let above = after k (omega arith) within in omega (arith, at, above)) (cases_lt k place)
+    (λ more. let above = after k (omega arith) within in omega (arith, at, above)) (cases_lt k index)

@@ -72,7 +72,7 @@ abbrev pub graph_state : List ℕ → Result GraphState Fault
 graph_state text =
     after_lines graph_step 1 (record { listed = λ id. None; requests = [] }) (lines_of text)
 
--- the graph of the adjacency lists; a node without one has no neighbours
+-- the graph of the adjacency lists; a node without one has no neighbors
 abbrev pub graph_of : (ℕ → Option (List ℕ)) → Graph
 graph_of listed id = unwrap_or (listed id) []
 

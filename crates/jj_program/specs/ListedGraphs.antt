@@ -17,7 +17,7 @@ shown_by graph = graph_of (listed_by graph.edges)
 abbrev pub named_by : ListedGraph → List ℕ
 named_by graph = graph.numbering.ids.items
 
--- these are the numbers of the neighbours of a number
+-- these are the numbers of the neighbors of a number
 abbrev pub IsRowOf : ListedGraph → ℕ → List ℕ → Type 0
 IsRowOf graph number row = number < length (named_by graph) → map (id_of (named_by graph)) row
     ≡ shown_by graph (get_or (named_by graph) number 0)

@@ -1,6 +1,6 @@
 -- Adjacency lists as parts of one array, and dense numbers of ids.
 -- Machinery of private functions and fields.
-use Rattle.std.specs.Prelude.{◌≡◌, ◌==◌, ◌<◌, ◌≤◌, ℕ, List, Option, Some, All, true, ◌+◌, suc, cond, length, get_or, nat_lt}
+use Rattle.std.specs.Prelude.{◌≡◌, ◌==◌, ◌<◌, ◌≤◌, ℕ, Bool, List, Option, Some, All, true, false, ◌+◌, suc, cond, length, get_or, nat_lt}
 use Rattle.std.specs.BTreeMap.{BTreeMap, get}
 use Rattle.std.specs.List.{AllPairs, Contains, list_any, sum_by}
 use Rattle.std.specs.Map.{lookup}
@@ -52,3 +52,7 @@ IsNumberOf ids id number = (number < length ids) × (get_or ids number 0 ≡ id)
 abbrev pub id_of : List ℕ → ℕ → ℕ
 id_of ids number = cond (nat_lt number (length ids)) (get_or ids number 0)
     (suc (sum_by (λ id. id) ids + number))
+
+-- the id is marked in a table
+abbrev pub IsMarked : List Bool → ℕ → Type 0
+IsMarked marks id = get_or marks id false ≡ true

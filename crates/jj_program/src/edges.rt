@@ -34,7 +34,8 @@ impl Edges {
         }
     }
 
-    // Adds the list of a node, unless it has one. Returns whether it had none.
+    // Sets the list of a node. Returns whether it had none; if it had one, its list is unspecified
+    // afterwards.
     pub(crate) fn list(&mut self, id: u64, neighbors: &[u64]) -> Result<bool, AllocError>
         ensures first { IfOk result (λ first. first ≡ not (is_some (listed_by self.old id))) }
         ensures listed { IfOk result (λ first. IsTrue first → listed_by self.new ≡ (λ other.
@@ -58,7 +59,7 @@ impl Edges {
         Ok(old.is_none())
     }
 
-    // The neighbours of all nodes.
+    // The neighbors of all nodes.
     pub(crate) fn targets(&self) -> &[u64]
         ensures { result.now ≡ self.now.targets.items }
     {
@@ -85,9 +86,9 @@ impl Edges {
     fn part(&self, next: &mut usize, id: u64) -> (usize, usize)
         ensures { result ≡ part_at self.now id }
     {
-        if let Some(place) = find(&self.ascending, *next, id) {
-            *next = place + 1;
-            return self.ascending[place].1;
+        if let Some(index) = find(&self.ascending, *next, id) {
+            *next = index + 1;
+            return self.ascending[index].1;
         }
         match self.others.get(&id) {
             Some(part) => *part,
@@ -124,15 +125,15 @@ fn is_below(entries: &VecDeque<(u64, (usize, usize))>, id: u64) -> bool
 fn find(entries: &VecDeque<(u64, (usize, usize))>, guess: usize, id: u64) -> Option<usize>
     requires { IsAscending entries.now.items }
     ensures { MatchOption result (lookup (λ other. other == id) entries.now.items ≡ None)
-        (λ place. (place < length entries.now.items)
+        (λ index. (index < length entries.now.items)
         × (lookup (λ other. other == id) entries.now.items
-        ≡ Some (get_or entries.now.items place (0, (0, 0))).1)) }
+        ≡ Some (get_or entries.now.items index (0, (0, 0))).1)) }
 {
     if guess < entries.len() && entries[guess].0 == id {
         return Some(guess);
     }
     match entries.binary_search_by_key(&id, |entry| entry.0) {
-        Ok(place) => Some(place),
-        Err(_place) => None,
+        Ok(index) => Some(index),
+        Err(_index) => None,
     }
 }

@@ -137,8 +137,8 @@ fn say<E: Sink>(errors: &mut E, texts: &[&str])
     ensures { Says (E.contents errors.old) (E.contents errors.new) (E.has_failed errors.new)
         (flat_map (λ text. text.now) texts.now) }
 {
-    for place in 0..texts.len() {
-        if write_all(errors, texts[place].as_bytes()).is_err() {
+    for index in 0..texts.len() {
+        if write_all(errors, texts[index].as_bytes()).is_err() {
             return;
         }
     }

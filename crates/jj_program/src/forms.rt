@@ -7,6 +7,7 @@ ghost use Rattle.jj_program.specs.Lines.{result_and_then, Agrees, texts_of};
 
 use crate::fault::{LineFault, StepFault};
 use std::alloc::{AllocError, Global};
+use std::mem::replace;
 
 // How many fields follow the word of a line, and how they split into two lists. All fields of a
 // list have one type.
@@ -60,19 +61,19 @@ fn dash_count(fields: &[&str]) -> usize
 }
 
 // Returns the index of the first separator, or the number of fields.
-fn dash_place(fields: &[&str]) -> usize
-    ensures place { result ≡ position_or_len is_dash (texts_of fields.now) }
+fn dash_index(fields: &[&str]) -> usize
+    ensures index { result ≡ position_or_len is_dash (texts_of fields.now) }
     ensures within { count_by is_dash (texts_of fields.now) ≡ 1
         → result < length fields.now }
 {
-    let mut place = 0;
+    let mut index = 0;
     for field in fields {
         if is_dash(field) {
-            return place;
+            return index;
         }
-        place += 1;
+        index += 1;
     }
-    place
+    index
 }
 
 // Splits alternating fields.
@@ -143,17 +144,54 @@ pub trait Field<'t>: Drop {
         ensures { Agrees result value (value_at kind text.now) };
 }
 
-// Parses every field as an `F`, and returns the fault of the first invalid one.
-fn parse_fields<'t, F: Field<'t>>(alloc: Global, fields: &[&'t str]) -> Result<Vec<F>, StepFault>
-    ensures { Agrees result (λ values. map F.value values.items)
+// The values of the two lists of fields of a line.
+#[derive(Drop)]
+pub(crate) struct LineValues<F, G> {
+    pub(crate) firsts: Vec<F>,
+    pub(crate) seconds: Vec<G>,
+}
+
+impl<F: Drop, G: Drop> LineValues<F, G> {
+    pub(crate) fn new(alloc: Global) -> LineValues<F, G> {
+        LineValues {
+            firsts: Vec::new(alloc),
+            seconds: Vec::new(alloc),
+        }
+    }
+
+    // Moves the first list out.
+    pub(crate) fn take_firsts(&mut self, alloc: Global) -> Vec<F>
+        ensures firsts { result ≡ self.old.firsts }
+        ensures seconds { self.new.seconds ≡ self.old.seconds }
+    {
+        replace(&mut self.firsts, Vec::new(alloc))
+    }
+
+    // Moves the second list out.
+    pub(crate) fn take_seconds(&mut self, alloc: Global) -> Vec<G>
+        ensures seconds { result ≡ self.old.seconds }
+        ensures firsts { self.new.firsts ≡ self.old.firsts }
+    {
+        replace(&mut self.seconds, Vec::new(alloc))
+    }
+}
+
+// Replaces `values` by those of all fields, parsed as `F`s, or returns the fault of the first
+// invalid field.
+fn parse_fields<'t, F: Field<'t>>(
+    alloc: Global,
+    fields: &[&'t str],
+    values: &mut Vec<F>,
+) -> Result<(), StepFault>
+    ensures { Agrees result (λ _. map F.value values.new.items)
         (values_at F.kind (texts_of fields.now)) }
 {
-    let mut values = Vec::with_capacity(alloc, fields.len())?;
+    values.clear();
     for field in fields {
         let value = F::parse(alloc, field)?;
         values.push(value)?;
     }
-    Ok(values)
+    Ok(())
 }
 
 // Parses two lists of fields; a fault of the first takes precedence.
@@ -162,38 +200,56 @@ fn parse_both<'t, A: Drop, F: Field<'t>, G: Field<'t>>(
     action: A,
     firsts: &[&'t str],
     seconds: &[&'t str],
-) -> Result<(A, Vec<F>, Vec<G>), StepFault>
+    values: &mut LineValues<F, G>,
+) -> Result<A, StepFault>
     ensures { Agrees {A = A × List F.Value × List G.Value} result
-        (λ line. (line.0, map F.value line.1.items, map G.value line.2.items))
+        (λ action. (
+          action,
+          map F.value values.new.firsts.items,
+          map G.value values.new.seconds.items,
+        ))
         (result_and_then (values_at F.kind (texts_of firsts.now))
         (λ xs. result_and_then (values_at G.kind (texts_of seconds.now))
         (λ ys. Ok (action, xs, ys)))) }
 {
-    let firsts = parse_fields(alloc, firsts)?;
-    let seconds = parse_fields(alloc, seconds)?;
-    Ok((action, firsts, seconds))
+    parse_fields(alloc, firsts, &mut values.firsts)?;
+    parse_fields(alloc, seconds, &mut values.seconds)?;
+    Ok(action)
 }
 
-// Parses a line by a table of forms: returns its action and the values of its two lists of fields.
+// Parses a line by a table of forms: returns its action, and replaces `values` by those of its two
+// lists of fields. All lines of a command share the lists, so that a line needs no allocation of
+// its own.
 pub(crate) fn parse_line<'t, A: Copy + Drop, F: Field<'t>, G: Field<'t>>(
     alloc: Global,
     forms: &[(&str, Shape, A)],
     fields: &[&'t str],
-) -> Result<(A, Vec<F>, Vec<G>), StepFault>
+    values: &mut LineValues<F, G>,
+) -> Result<A, StepFault>
     ensures { Agrees result
-        (λ line. (line.0, map F.value line.1.items, map G.value line.2.items))
+        (λ action. (
+          action,
+          map F.value values.new.firsts.items,
+          map G.value values.new.seconds.items,
+        ))
         (line_of F.kind G.kind (borrowed_table forms.now) (texts_of fields.now)) }
 {
     let (action, shape, fields) = form_line(forms, fields)?;
     match shape {
         Shape::Pairs => {
             let (firsts, seconds) = split_pairs(alloc, fields)?;
-            parse_both(alloc, action, &firsts, &seconds)
+            parse_both(alloc, action, &firsts, &seconds, values)
         }
         Shape::Dashed => {
-            let place = dash_place(fields);
-            parse_both(alloc, action, &fields[..place], &fields[place + 1..])
+            let index = dash_index(fields);
+            parse_both(
+                alloc,
+                action,
+                &fields[..index],
+                &fields[index + 1..],
+                values,
+            )
         }
-        _ => parse_both(alloc, action, fields, &[]),
+        _ => parse_both(alloc, action, fields, &[], values),
     }
 }

@@ -1,6 +1,6 @@
 //! The command `graph`: reads adjacency lists, then prints the topological order, the heads or the
 //! closest common nodes of the ids of each request.
-ghost use Rattle.std.specs.Prelude.{◌≡◌, ◌≢◌, ◌↔◌, ◌<◌, ◌++◌, ◌∷◌, ℕ, All, IsTrue, List, None, Some, cond, Ok, IfOk, IfErr, OnOk, length, slice_index, string_bytes};
+ghost use Rattle.std.specs.Prelude.{◌≡◌, ◌≢◌, ◌↔◌, ◌<◌, ◌++◌, ℕ, All, IsTrue, List, None, Some, cond, Ok, IfOk, IfErr, OnOk, length, slice_index, string_bytes};
 ghost use Rattle.std.specs.List.{Contains};
 ghost use Rattle.std.specs.Str.Parse.{digits_value};
 ghost use Rattle.jj_program.specs.Lines.{IsFaultOf, Agrees};
@@ -10,7 +10,7 @@ ghost use Rattle.jj_program.specs.GraphViews.{ids_of, graph_request_of, graph_st
 
 use crate::edges::Edges;
 use crate::fault::{Fault, LineFault, StepFault};
-use crate::forms::{Field, Shape, parse_line};
+use crate::forms::{Field, LineValues, Shape, parse_line};
 use crate::graph_walks::{Visited, ascending_common, ascending_heads, greatest_order, has_cycle};
 use crate::lines::{Reading, take_lines};
 use crate::listed_graph::ListedGraph;
@@ -29,6 +29,8 @@ pub(crate) enum GraphRequest {
 pub(crate) struct GraphReading {
     edges: Edges,
     requests: Vec<GraphRequest>,
+    // The ids of the last line.
+    ids: LineValues<u64, u64>,
 }
 
 impl<'t> Field<'t> for u64 {
@@ -86,23 +88,15 @@ pub(crate) const GRAPH_FORMS: &[(&str, Shape, GraphForm)] = &[
 ];
 
 impl GraphReading {
-    // Adds the adjacency list of the first id.
-    fn list(&mut self, ids: &[u64]) -> Result<(), StepFault>
+    // Adds the adjacency list of the first id of the line.
+    fn list(&mut self) -> Result<(), StepFault>
         ensures { Agrees result (λ _. graph_state_of self.new)
-            (with_node (graph_state_of self.old) ids.now) }
+            (with_node (graph_state_of self.old) self.old.ids.firsts.items) }
     {
-        match ids.split_first() {
-            Some((id, neighbors)) => self.list_neighbors(*id, neighbors),
-            None => Ok(()),
-        }
-    }
-
-    // Adds the adjacency list of an id.
-    fn list_neighbors(&mut self, id: u64, neighbors: &[u64]) -> Result<(), StepFault>
-        ensures { Agrees result (λ _. graph_state_of self.new)
-            (with_node (graph_state_of self.old) (id ∷ neighbors.now)) }
-    {
-        let is_first = self.edges.list(id, neighbors)?;
+        let Some((id, neighbors)) = self.ids.firsts.split_first() else {
+            return Ok(());
+        };
+        let is_first = self.edges.list(*id, neighbors)?;
         if !is_first {
             return Err(StepFault::Line(LineFault::RepeatedNode));
         }
@@ -127,12 +121,22 @@ impl<'t> Reading<'t> for GraphReading {
     ghost step = { graph_step };
 
     fn take(&mut self, alloc: Global, fields: &[&'t str]) -> Result<(), StepFault> {
-        let (form, first, second) = parse_line::<GraphForm, u64, u64>(alloc, GRAPH_FORMS, fields)?;
+        let form = parse_line::<GraphForm, u64, u64>(alloc, GRAPH_FORMS, fields, &mut self.ids)?;
         match form {
-            GraphForm::Node => self.list(&first),
-            GraphForm::Order => self.ask(GraphRequest::Order(first)),
-            GraphForm::Heads => self.ask(GraphRequest::Heads(first)),
-            GraphForm::Common => self.ask(GraphRequest::Common(first, second)),
+            GraphForm::Node => self.list(),
+            GraphForm::Order => {
+                let ids = self.ids.take_firsts(alloc);
+                self.ask(GraphRequest::Order(ids))
+            }
+            GraphForm::Heads => {
+                let ids = self.ids.take_firsts(alloc);
+                self.ask(GraphRequest::Heads(ids))
+            }
+            GraphForm::Common => {
+                let set1 = self.ids.take_firsts(alloc);
+                let set2 = self.ids.take_seconds(alloc);
+                self.ask(GraphRequest::Common(set1, set2))
+            }
         }
     }
 }
@@ -145,9 +149,14 @@ pub(crate) fn graph_output(alloc: Global, text: &str) -> Result<Vec<u8>, Fault>
     let mut reading = GraphReading {
         edges: Edges::new(alloc),
         requests: Vec::new(alloc),
+        ids: LineValues::new(alloc),
     };
     take_lines(alloc, &mut reading, text)?;
-    let GraphReading { edges, requests } = reading;
+    let GraphReading {
+        edges,
+        requests,
+        ids: _,
+    } = reading;
     let graph = ListedGraph::new(alloc, edges, asked_ids(alloc, &requests)?)?;
     let mut visited = Visited::new(alloc);
     let cyclic = has_cycle(alloc, &graph)?;

@@ -20,7 +20,7 @@ use std::alloc::{AllocError, Global};
 use std::iter::Copied;
 use std::slice;
 
-// Returns the neighbours of a node in the fallible form that `closest_common_nodes_in` takes.
+// Returns the neighbors of a node in the fallible form that `closest_common_nodes_in` takes.
 fn sound_neighbors_of(
     graph: &ListedGraph,
     node: usize,
@@ -195,7 +195,7 @@ pub(crate) fn ascending_common(
         }
         Err(error) => match error {
             WalkError::Memory => Err(AllocError),
-            // No list of neighbours fails.
+            // No list of neighbors fails.
             WalkError::Node(_) => unreachable!(),
         },
     }

@@ -115,7 +115,7 @@ fn field_len(bytes: &[u8]) -> usize
     field_len_from(bytes, 16)
 }
 
-// Does the same where none of the bytes before an index is a TAB or LF.
+// Returns the number of bytes before the first TAB or LF. None of the first `near` bytes is one.
 fn field_len_from(bytes: &[u8], near: usize) -> usize
     requires within { near ≤ length bytes.now }
     requires none { (k : ℕ) → k < near → (get_or bytes.now k 0 == 9 || get_or bytes.now k 0 == 10)

@@ -38,7 +38,7 @@ impl ListedGraph {
     {
         let mut ids = asked;
         ids.extend_from_slice(edges.targets())?;
-        let numbering = Numbering::new(ids);
+        let numbering = Numbering::new(alloc, ids)?;
         let targets = numbering.numbers_of(alloc, edges.targets())?;
         let parts = edges.parts_of(alloc, numbering.ids())?;
         Ok(ListedGraph {
@@ -49,7 +49,7 @@ impl ListedGraph {
         })
     }
 
-    // The numbers of all neighbours.
+    // The numbers of all neighbors.
     pub(crate) fn targets(&self) -> &[usize]
         ensures { result.now ≡ self.now.targets.items }
     {
@@ -74,7 +74,7 @@ impl ListedGraph {
         self.numbering.ids_of(alloc, numbers)
     }
 
-    // Returns the numbers of the neighbours of a number.
+    // Returns the numbers of the neighbors of a number.
     pub(crate) fn neighbors_of(&self, number: usize) -> &[usize]
         ensures { IsRowOf self.now number result.now }
     {

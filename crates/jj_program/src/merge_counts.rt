@@ -12,11 +12,11 @@ use std::alloc::{AllocError, Global};
 // Merges with more distinct values are not counted: each new one is compared with all of them.
 const MAX_VALUES: usize = 64;
 
-// The table of hints: where in the list of counts a value was last.
+// The number of hints. A table has for each the index at which a value with this hint was last.
 const HINTS: usize = 256;
 
-// Merges whose values share hints are not counted either: for each term, so many comparisons with
-// values that no hint led to take about as long as sorting.
+// Counting stops after this many comparisons per term with values that no hint led to: sorting is
+// then about as fast.
 const MAX_COMPARISONS: usize = 8;
 
 // A value with the numbers of adds and of removes that are equal to it.
@@ -80,7 +80,7 @@ fn compared_after(compared: usize, near: usize, at: usize) -> usize {
     }
 }
 
-// A number that few values of a merge share.
+// Hashes a few bytes of the string to a hint.
 fn hint_of(text: &str) -> usize
     ensures { result < HINTS }
 {

@@ -103,8 +103,8 @@ fn one_if_equal(text: &str, other: &str) -> usize
     if text == other { 1 } else { 0 }
 }
 
-// Returns the adds and the removes, without pairs of terms that are equal neighbours or become
-// neighbours when the terms between them cancel. `[x, a, a, b, b]` leaves only `x`, in O(n).
+// Returns the adds and the removes, without pairs of terms that are equal neighbors or become
+// neighbors when the terms between them cancel. `[x, a, a, b, b]` leaves only `x`, in O(n).
 fn without_neighbors<'t>(
     alloc: Global,
     terms: &[&'t str],

@@ -15,7 +15,7 @@ use crate::fault::{Fault, LineFault, StepFault};
 use crate::file_set::Combination::{Difference, Intersection, Union};
 use crate::file_set::SetWord::{Everything, Files, Globs, Nothing, Prefix, PrefixGlobs};
 use crate::file_set::{Combination, SetLine, SetStack, SetWord, walk_set};
-use crate::forms::{Field, Shape, parse_line};
+use crate::forms::{Field, LineValues, Shape, parse_line};
 use crate::lines::{Reading, push_line, take_lines};
 use crate::walk_command::WalkForm::{Combine, Mark, Push};
 use jj_globs::glob::GlobError;
@@ -28,6 +28,8 @@ use std::alloc::{AllocError, Global};
 pub(crate) struct WalkReading<'t> {
     marks: Vec<RepoPath<'t>>,
     sets: SetStack<'t>,
+    // The paths and globs of the last line.
+    values: LineValues<RepoPath<'t>, PathGlobPattern>,
 }
 
 impl<'t> Field<'t> for RepoPath<'t> {
@@ -99,12 +101,19 @@ impl<'t> Reading<'t> for WalkReading<'t> {
     ghost step = { walk_step };
 
     fn take(&mut self, alloc: Global, fields: &[&'t str]) -> Result<(), StepFault> {
-        let (form, paths, globs) = parse_line::<WalkForm, RepoPath<'t>, PathGlobPattern>(
-            alloc, WALK_FORMS, fields,
+        let form = parse_line::<WalkForm, RepoPath<'t>, PathGlobPattern>(
+            alloc,
+            WALK_FORMS,
+            fields,
+            &mut self.values,
         )?;
         match form {
-            Mark => Ok(self.marks.extend_from_slice(&paths)?),
-            Push(word) => Ok(self.sets.push(SetLine { word, paths, globs })?),
+            Mark => Ok(self.marks.extend_from_slice(&self.values.firsts)?),
+            Push(word) => {
+                let paths = self.values.take_firsts(alloc);
+                let globs = self.values.take_seconds(alloc);
+                Ok(self.sets.push(SetLine { word, paths, globs })?)
+            }
             Combine(_) if self.sets.height() < 2 => Err(StepFault::Line(LineFault::EmptyStack)),
             Combine(combination) => Ok(self.sets.combine(combination)?),
         }
@@ -119,9 +128,14 @@ pub(crate) fn walk_output<'t>(alloc: Global, text: &'t str) -> Result<Vec<u8>, F
     let mut reading = WalkReading {
         marks: Vec::new(alloc),
         sets: SetStack::new(alloc),
+        values: LineValues::new(alloc),
     };
     take_lines(alloc, &mut reading, text)?;
-    let WalkReading { marks, sets } = reading;
+    let WalkReading {
+        marks,
+        sets,
+        values: _,
+    } = reading;
     match sets.height() {
         1 => Ok(found_lines(alloc, marks, sets)?),
         height => Err(Fault::Matchers(height)),

@@ -20,11 +20,11 @@ returns-in-Ok c =
     let facts = c.binary_search_by_key.ensures in
     let by_key = facts.position (λ entry. entry.0) (answers_always _ _ _ (λ f a r g called. search rules)) in
     let size : deque_len c.args.entries.now ≡ length entries = search rules in
-    let within : c.in-Ok.place < length entries = subst (λ n. c.in-Ok.place < n) size c.in-Ok.ensures.bound in
-    (within, search_found entries c.requires c.args.id c.in-Ok.place within (rw c.in-Ok.is at by_key))
+    let within : c.in-Ok.index < length entries = subst (λ n. c.in-Ok.index < n) size c.in-Ok.ensures.bound in
+    (within, search_found entries c.requires c.args.id c.in-Ok.index within (rw c.in-Ok.is at by_key))
 
 pub returns-in-Err : goal.returns-in-Err
 returns-in-Err c =
     let facts = c.binary_search_by_key.ensures in
     let by_key = facts.position (λ entry. entry.0) (answers_always _ _ _ (λ f a r g called. search rules)) in
-    search_missed c.args.entries.now.items c.requires c.args.id c.in-Err._place (rw c.in-Err.is at by_key)
+    search_missed c.args.entries.now.items c.requires c.args.id c.in-Err._index (rw c.in-Err.is at by_key)

@@ -4,8 +4,8 @@ use Rattle.std.specs.Io.KnownBytes.{Appends}
 use Rattle.jj_program.proofs.Said.{said}
 use Rattle.jj_program.proofs.fault.say.Given as goal
 
-abbrev pub invariant-loop-place : goal.invariant-loop-place
-invariant-loop-place g l = record {
-  so_far : Appends (g.E.Sink.contents l.initial.errors) (g.E.Sink.contents l.errors) (said (take l.place l.texts));
+abbrev pub invariant-loop-index : goal.invariant-loop-index
+invariant-loop-index g l = record {
+  so_far : Appends (g.E.Sink.contents l.initial.errors) (g.E.Sink.contents l.errors) (said (take l.index l.texts));
   works : g.E.Sink.has_failed l.errors ≡ false;
 }

@@ -14,7 +14,7 @@ returns-in_err-value g c =
     let i = c.loop-field.field-index in
     let none : Text = record { ref_ptr = (0, 0); now = [] } in
     let next = ap (list_all is_one) (drop_map_next (λ field. field.now) fields i none (omega arith)) in
-    let p = err_from_is_err_and c.from_residual-in_err-value.result c.from_residual-in_err-value.ensures.1 in
+    let p = err_from_is_err_and c.from_residual.result c.from_residual.ensures.1 in
     rw (p.1, p.2) (field-fault g.F.Field.kind c.in_err-value.field-0.0 (get_or fields i none).now (texts_of fields) (list_all is_one (drop (i + 1) (texts_of fields)))
     (sym c.loop-field.invariant.others ∙ next) c.in_err-value.ensures)
 

@@ -44,7 +44,7 @@ pub returns-clause-done : goal.returns-clause-done
 returns-clause-done c =
     let reading = c.take_lines.new.reading in
     let state : GraphState = graph_state_of reading in
-    let start : graph_state_of (record { edges = c.new.result; requests = c.new-2.result }) ≡ record { listed = λ id. None; requests = [] } =
+    let start : graph_state_of (record { edges = c.new.result; requests = c.new-2.result; ids = c.new-3.result }) ≡ record { listed = λ id. None; requests = [] } =
     λ i. record { listed = c.new.ensures i; requests = map graph_request_of (c.new-2.ensures.items i) } in
     let read = ap (λ s. after_lines graph_step 1 s (lines_of c.args.text.now)) (sym start) ∙ c.in_ok-take_lines.ensures in
     let items = c.deref-request-items.result.now in

@@ -6,8 +6,8 @@ use Rattle.jj_program.specs.SetCode.{sets_of}
 use Rattle.jj_program.proofs.SetCode.{only_item}
 use Rattle.jj_program.proofs.walk_command.walk_output.Goals as goal
 
-pub returns-in_ok-found_lines-in-1-clause-done : goal.returns-in_ok-found_lines-in-1-clause-done
-returns-in_ok-found_lines-in-1-clause-done c =
+pub returns-in-1-clause-done : goal.returns-in-1-clause-done
+returns-in-1-clause-done c =
     let reading = c.take_lines.new.reading in
     let marks = map path_of reading.marks.items in
     let item = only_item (sets_of reading.sets.ops.items) (sym c.height.ensures ∙ c.in-1.is) in

@@ -8,28 +8,28 @@ use Rattle.jj_program.proofs.listed_graph.ListedGraph.new.Goals as goal
 
 pub numbers_of-requires : goal.numbers_of-requires
 numbers_of-requires c =
-    let names = c.new-numbering.result.ids.items in
+    let names = c.in_ok-numbering.numbering.ids.items in
     let asked = c.args.asked.items in
     let targets = c.args.edges.targets.items in
     let grown : c.extend_from_slice.new.self.items ≡ asked ++ targets = c.in_ok-extend_from_slice.ensures.items ∙ ap (λ l. asked ++ l) c.targets.ensures in
-    subst (All (Contains names)) (sym c.targets-2.ensures) (back_held names asked targets (subst (All (Contains names)) grown c.new-numbering.ensures))
+    subst (All (Contains names)) (sym c.targets-2.ensures) (back_held names asked targets (subst (All (Contains names)) grown c.in_ok-numbering.ensures))
 
 pub invariant_of-result : goal.invariant_of-result
 invariant_of-result c =
-    let names = c.new-numbering.result.ids.items in
+    let names = c.in_ok-numbering.numbering.ids.items in
     let asked = c.args.asked.items in
     let targets = c.args.edges.targets.items in
     let grown : c.extend_from_slice.new.self.items ≡ asked ++ targets = c.in_ok-extend_from_slice.ensures.items ∙ ap (λ l. asked ++ l) c.targets.ensures in
     record {
-      among = holds_each names targets (back_held names asked targets (subst (All (Contains names)) grown c.new-numbering.ensures));
+      among = holds_each names targets (back_held names asked targets (subst (All (Contains names)) grown c.in_ok-numbering.ensures));
       numbered = c.in_ok-targets.ensures ∙ c.targets-2.ensures;
       parted = c.in_ok-parts.ensures ∙ ap (map (part_at c.args.edges)) c.ids.ensures;
     }
 
 pub returns-clause-asked : goal.returns-clause-asked
 returns-clause-asked c =
-    let names = c.new-numbering.result.ids.items in
+    let names = c.in_ok-numbering.numbering.ids.items in
     let asked = c.args.asked.items in
     let targets = c.args.edges.targets.items in
     let grown : c.extend_from_slice.new.self.items ≡ asked ++ targets = c.in_ok-extend_from_slice.ensures.items ∙ ap (λ l. asked ++ l) c.targets.ensures in
-    front_held names asked targets (subst (All (Contains names)) grown c.new-numbering.ensures)
+    front_held names asked targets (subst (All (Contains names)) grown c.in_ok-numbering.ensures)

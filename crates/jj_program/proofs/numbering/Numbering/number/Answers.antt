@@ -8,4 +8,4 @@ use Rattle.jj_program.proofs.numbering.Numbering.number.Goals as goal
 pub returns-in-Err : goal.returns-in-Err
 returns-in-Err c = λ among.
     let ids = c.args.self.now.ids.items in
-    absurd (none_missed ids c.args.id c.in-Err.place c.args.self.now.ascending (subst (λ xs. IsBinarySearchResult (λ y. nat_cmp y c.args.id) xs (Err c.in-Err.place)) c.deref.ensures.value c.in-Err.ensures.position) among)
+    absurd (none_missed ids c.args.id c.in-Err.index c.args.self.now.ascending (subst (λ xs. IsBinarySearchResult (λ y. nat_cmp y c.args.id) xs (Err c.in-Err.index)) c.deref.ensures.value c.in-Err.ensures.position) among)

@@ -5,14 +5,14 @@ use Rattle.std.proofs.lemmas.List.Sums.{position_or_len_is}
 use borrow.Author.Count.{below_more}
 use Rattle.jj_program.specs.Forms.{is_dash}
 use Rattle.jj_program.proofs.Dashes.{counted_within, tested}
-use Rattle.jj_program.proofs.forms.dash_place.Goals as goal
+use Rattle.jj_program.proofs.forms.dash_index.Goals as goal
 
 pub loop-field-preserved : goal.loop-field-preserved
 loop-field-preserved c =
     let i = c.loop-field.field-index in
     let within : i < length c.args.fields.now = omega arith in
     record {
-      place = omega (arith, c.loop-field.invariant.place);
+      index = omega (arith, c.loop-field.invariant.index);
       none = below_more _ _ c.loop-field.invariant.none (tested c.args.fields.now i _ within false (sym c.if-is_dash.false ∙ c.is_dash.ensures));
     }
 
@@ -23,10 +23,10 @@ returns-then-is_dash c =
     let here = tested c.args.fields.now i _ within true (sym c.if-is_dash.true ∙ c.is_dash.ensures) in
     let texts = map (λ field. field.now) c.args.fields.now in
     let all : length texts ≡ length c.args.fields.now = length-map c.args.fields.now (λ field. field.now) in
-    let place : position_or_len is_dash texts ≡ i = position_or_len_is is_dash texts i [] (omega (arith, all)) c.loop-field.invariant.none (λ h. here) in
+    let index : position_or_len is_dash texts ≡ i = position_or_len_is is_dash texts i [] (omega (arith, all)) c.loop-field.invariant.none (λ h. here) in
     record {
-      place = c.loop-field.invariant.place ∙ sym place;
-      within = λ one. omega (arith, within, c.loop-field.invariant.place);
+      index = c.loop-field.invariant.index ∙ sym index;
+      within = λ one. omega (arith, within, c.loop-field.invariant.index);
     }
 
 pub returns : goal.returns
@@ -34,8 +34,8 @@ returns c =
     let texts = map (λ field. field.now) c.args.fields.now in
     let all : length texts ≡ length c.args.fields.now = length-map c.args.fields.now (λ field. field.now) in
     let i = c.loop-field.field-index in
-    let place : position_or_len is_dash texts ≡ i = position_or_len_is is_dash texts i [] (omega (arith, all)) c.loop-field.invariant.none (λ h. absurd (omega (arith, all))) in
+    let index : position_or_len is_dash texts ≡ i = position_or_len_is is_dash texts i [] (omega (arith, all)) c.loop-field.invariant.none (λ h. absurd (omega (arith, all))) in
     record {
-      place = c.loop-field.invariant.place ∙ sym place;
-      within = λ one. let w = counted_within is_dash texts one in omega (arith, w, all, place, c.loop-field.invariant.place);
+      index = c.loop-field.invariant.index ∙ sym index;
+      within = λ one. let w = counted_within is_dash texts one in omega (arith, w, all, index, c.loop-field.invariant.index);
     }

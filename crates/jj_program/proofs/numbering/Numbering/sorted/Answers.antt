@@ -6,7 +6,7 @@ use Rattle.std.proofs.lemmas.List.Kept.{Contains-dedup_nat}
 use Rattle.std.proofs.lemmas.List.Sorted.{Contains-permutation}
 use Rattle.std.proofs.lemmas.List.{get_or_default}
 use Rattle.std.proofs.lemmas.Map.Keys.{IsStrictlyIncreasing-dedup}
-use Rattle.jj_program.proofs.numbering.Numbering.new.Goals as goal
+use Rattle.jj_program.proofs.numbering.Numbering.sorted.Goals as goal
 
 pub invariant_of-result : goal.invariant_of-result
 invariant_of-result c =
