@@ -1,4 +1,4 @@
--- The numbers that exports return: a result, or the status of an error.
+-- The statuses that exports return: a result, or the status of an error.
 -- Cited by contracts of public items: Accepts, Returns.
 use Rattle.std.specs.Prelude.{◌≡◌, ℕ, ℤ, pos, negsuc, Result, Ok, Err, MatchResult}
 use Rattle.jj_core_c.specs.declared.error.Error.{Error}
@@ -17,14 +17,14 @@ code_of Cycle = negsuc 7
 code_of Path = negsuc 8
 code_of Expression = negsuc 9
 
--- the number that represents an outcome
-abbrev pub number_of : Result ℕ Error → ℤ
-number_of (Ok n) = pos n
-number_of (Err error) = code_of error
+-- the status of an outcome
+abbrev pub status_of : Result ℕ Error → ℤ
+status_of (Ok n) = pos n
+status_of (Err error) = code_of error
 
--- the number represents a result n of which P holds, or an error of which Q holds
+-- the status represents a result n of which P holds, or an error of which Q holds
 abbrev pub Returns : ℤ → (ℕ → Type 0) → (Error → Type 0) → Type 0
-Returns number P Q = (outcome : Result ℕ Error) × (number ≡ number_of outcome)
+Returns status P Q = (outcome : Result ℕ Error) × (status ≡ status_of outcome)
     × MatchResult outcome P Q
 
 -- the arguments of the call are valid, and P holds of the number

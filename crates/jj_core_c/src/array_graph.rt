@@ -44,14 +44,14 @@ impl<'a> ArrayGraph<'a> {
     }
 }
 
-// Whether all nodes are below `len`.
+// Returns whether all nodes are below `len`.
 pub(crate) fn are_nodes(len: usize, nodes: &[usize]) -> bool
     ensures { IsTrue result ↔ All (λ node. node < len) nodes.now }
 {
     nodes.iter().all(|node| *node < len)
 }
 
-// Whether all nodes of both lists are below `len`.
+// Returns whether all nodes of both lists are below `len`.
 pub(crate) fn are_all_nodes(len: usize, set1: &[usize], set2: &[usize]) -> bool
     ensures { IsTrue result ↔ (All (λ node. node < len) set1.now
         × All (λ node. node < len) set2.now) }

@@ -9,7 +9,7 @@ ghost use Rattle.jj_core_c.specs.Pieces.{are_ends, pieces_of};
 ghost use Rattle.jj_core_c.specs.Statuses.{Accepts, Returns};
 
 use crate::buffers::write_bytes;
-use crate::error::{Error, number};
+use crate::error::{Error, status_of};
 use crate::hasher::hash_two;
 use crate::pieces::{are_ends, piece_at};
 use jj_content::blake2b::Blake2b512;
@@ -84,7 +84,7 @@ pub extern "C" fn jj_hash(bytes: &[u8], digest: &mut [u8]) -> i64
     ensures { Returns result (Writes digest.old digest.new (blake2b bytes.now))
         (Fails digest.old digest.new (IsLengthCause 64 (length digest.old))) }
 {
-    number(write_digest(&digest_of(bytes), digest))
+    status_of(write_digest(&digest_of(bytes), digest))
 }
 
 /// Writes the digest of the content of a byte string. Returns 64.
@@ -111,5 +111,5 @@ pub extern "C" fn jj_content_hash_list(bytes: &[u8], ends: &[usize], digest: &mu
         (Fails digest.old digest.new
         (IsEndsCause (length bytes.now) ends.now 64 (length digest.old))) }
 {
-    number(write_list_digest(bytes, ends, digest))
+    status_of(write_list_digest(bytes, ends, digest))
 }

@@ -1,6 +1,6 @@
-//! The errors of the exports, and the numbers that the exports return.
+//! The errors of the exports, and the statuses that the exports return.
 ghost use Rattle.std.specs.Prelude.{◌≡◌, ◌<◌, ◌^◌, IfOk};
-ghost use Rattle.jj_core_c.specs.Statuses.{code_of, number_of};
+ghost use Rattle.jj_core_c.specs.Statuses.{code_of, status_of};
 ghost use Rattle.jj_core_c.specs.declared.error.Error.{Error};
 
 use std::alloc::{AllocError, AllocFailed};
@@ -46,7 +46,7 @@ impl<T: Drop> From<AllocFailed<T>> for Error {
     }
 }
 
-// The status of an error.
+// Returns the status of an error.
 fn code(error: Error) -> i64
     ensures { result ≡ code_of error }
 {
@@ -64,10 +64,10 @@ fn code(error: Error) -> i64
     }
 }
 
-// The number that represents an outcome.
-pub(crate) fn number(outcome: Result<usize, Error>) -> i64
+// Returns the status of an outcome: the result itself, or the status of the error.
+pub(crate) fn status_of(outcome: Result<usize, Error>) -> i64
     requires { IfOk outcome (λ n. n < 2 ^ 63) }
-    ensures { result ≡ number_of outcome }
+    ensures { result ≡ status_of outcome }
 {
     match outcome {
         Ok(n) => n as i64,

@@ -8,7 +8,7 @@ ghost use Rattle.jj_core_c.specs.JoinedPaths.{AreJoinedPaths, paths_of};
 ghost use Rattle.jj_core_c.specs.Statuses.{Accepts, Returns};
 
 use crate::buffers::write_flags;
-use crate::error::{Error, number};
+use crate::error::{Error, status_of};
 use crate::paths::parse_paths;
 use crate::pieces::are_ends;
 use jj_filesets::fileset::{FilesetExpression, FilesetParseError};
@@ -72,7 +72,7 @@ fn fileset_matches(
 }
 
 /// Parses an expression once, and writes whether each path is in the set that it means. Returns
-/// their number. O(bytes · steps of the expression).
+/// their number. O(bytes · length of the expression).
 ///
 /// Errors: `Ends`, `Length`, `Expression`, `Path`, `Memory`.
 #[unsafe(no_mangle)]
@@ -89,5 +89,5 @@ pub extern "C" fn jj_fileset_matches(
         (Fails matches.old matches.new
         (IsFilesetCause expression.now bytes.now ends.now (length matches.old))) }
 {
-    number(fileset_matches(alloc, expression, bytes, ends, matches))
+    status_of(fileset_matches(alloc, expression, bytes, ends, matches))
 }

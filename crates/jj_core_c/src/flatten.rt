@@ -9,7 +9,7 @@ ghost use Rattle.jj_core_c.specs.Pieces.{are_ends, pieces_of};
 ghost use Rattle.jj_core_c.specs.Statuses.{Accepts, Returns};
 
 use crate::buffers::write_indices;
-use crate::error::{Error, number};
+use crate::error::{Error, status_of};
 use crate::pieces::{are_ends, piece_at};
 use jj_merges::merge::{Merge, MergeBuilder};
 use smallvec::SmallVec;
@@ -25,7 +25,7 @@ fn term_count(ends: &[usize]) -> usize
     }
 }
 
-fn first_indices(alloc: Global, len: usize) -> Result<Vec<usize>, AllocError>
+fn indices_below(alloc: Global, len: usize) -> Result<Vec<usize>, AllocError>
     ensures { IfOk result (λ indices. indices.items ≡ range_with_len 0 len) }
 {
     (0..len).collect(alloc)
@@ -77,7 +77,7 @@ fn flattened_indices(alloc: Global, ends: &[usize]) -> Result<Merge<usize>, Erro
     if ends.len() % 2 == 0 {
         return Err(Error::Terms);
     }
-    let indices = first_indices(alloc, term_count(ends))?;
+    let indices = indices_below(alloc, term_count(ends))?;
     let merges = merges_of(alloc, &indices, ends)?;
     Ok(flatten_merges(alloc, merges)?)
 }
@@ -110,5 +110,5 @@ pub extern "C" fn jj_merge_flatten(alloc: Global, ends: &[usize], order: &mut [u
         (flattened_terms (indexed_merges ends.now))))
         (Fails order.old order.new (IsFlattenCause ends.now (length order.old))) }
 {
-    number(flatten(alloc, ends, order))
+    status_of(flatten(alloc, ends, order))
 }

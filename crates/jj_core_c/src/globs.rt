@@ -6,7 +6,7 @@ ghost use Rattle.jj_core_c.specs.GlobResults.{IsGlobCause, IsParseCause, IsValid
 ghost use Rattle.jj_core_c.specs.Pieces.{are_ends, pieces_of};
 ghost use Rattle.jj_core_c.specs.Statuses.{Accepts, Returns};
 
-use crate::error::{Error, number};
+use crate::error::{Error, status_of};
 use crate::pieces::{are_ends, piece_at};
 use jj_globs::glob::{Glob, GlobError};
 use std::alloc::Global;
@@ -91,5 +91,5 @@ pub extern "C" fn jj_glob_matches(
         (Fails matches.old matches.new
         (IsGlobCause glob.now (length bytes.now) ends.now (length matches.old))) }
 {
-    number(glob_matches(alloc, glob, separator, icase, bytes, ends, matches))
+    status_of(glob_matches(alloc, glob, separator, icase, bytes, ends, matches))
 }

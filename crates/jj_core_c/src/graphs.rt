@@ -8,7 +8,7 @@ ghost use Rattle.jj_core_c.specs.Statuses.{Accepts, Returns};
 
 use crate::array_graph::{ArrayGraph, are_all_nodes, are_nodes};
 use crate::buffers::write_indices;
-use crate::error::{Error, number};
+use crate::error::{Error, status_of};
 use crate::pieces::are_ends;
 use crate::walks::{ascending_common, ascending_heads, greatest_order, has_cycle};
 use std::alloc::Global;
@@ -145,7 +145,7 @@ pub extern "C" fn jj_graph_order(
         (IsGreatestTopologicalOrder (graph_of targets.now ends.now) nodes.now)
         (length order.old))) }
 {
-    number(write_order(alloc, targets, ends, nodes, order))
+    status_of(write_order(alloc, targets, ends, nodes, order))
 }
 
 /// Writes those of the nodes that are reachable from no other of them, in ascending order. Returns
@@ -170,7 +170,7 @@ pub extern "C" fn jj_graph_heads(
         (AreAscendingHeads (graph_of targets.now ends.now) nodes.now)
         (length heads.old))) }
 {
-    number(write_heads(alloc, targets, ends, nodes, heads))
+    status_of(write_heads(alloc, targets, ends, nodes, heads))
 }
 
 /// Writes the nodes that both sets reach and that no other such node reaches, in ascending order.
@@ -196,5 +196,5 @@ pub extern "C" fn jj_graph_common(
         (AreAscendingCommon (graph_of targets.now ends.now) set1.now set2.now)
         (length common.old))) }
 {
-    number(write_common(alloc, targets, ends, set1, set2, common))
+    status_of(write_common(alloc, targets, ends, set1, set2, common))
 }

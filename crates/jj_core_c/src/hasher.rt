@@ -9,7 +9,7 @@ ghost use Rattle.jj_core_c.specs.Hashers.{WritesDigest, hasher_of};
 ghost use Rattle.jj_core_c.specs.Statuses.{Returns};
 
 use crate::digests::write_digest;
-use crate::error::{Error, number};
+use crate::error::{Error, status_of};
 use jj_content::blake2b::Blake2b512;
 
 /// The state of a hasher, in memory of the caller. Any values of the fields are a state.
@@ -60,7 +60,7 @@ fn write_digest_of(hasher: &JjHasher, digest: &mut [u8]) -> Result<usize, Error>
     write_digest(&load_hasher(hasher).finalize(), digest)
 }
 
-// Hashes two byte strings as one, by the exports only.
+// Hashes the concatenation of two byte strings; the proved caller of the exported hasher.
 pub(crate) fn hash_two(first: &[u8], second: &[u8], digest: &mut [u8]) -> i64
     ensures { Returns result
         (Writes digest.old digest.new (blake2b (first.now ++ second.now)))
@@ -79,7 +79,7 @@ pub(crate) fn hash_two(first: &[u8], second: &[u8], digest: &mut [u8]) -> i64
     jj_hasher_finish(&hasher, digest)
 }
 
-/// Makes the hasher that of the empty message, whatever its fields were.
+/// Resets the hasher to the empty message, whatever its fields were.
 ///
 /// Does not allocate.
 #[unsafe(no_mangle)]
@@ -109,5 +109,5 @@ pub extern "C" fn jj_hasher_finish(hasher: &JjHasher, digest: &mut [u8]) -> i64
     ensures { Returns result (WritesDigest (hasher_of hasher.now) digest.old digest.new)
         (Fails digest.old digest.new (IsLengthCause 64 (length digest.old))) }
 {
-    number(write_digest_of(hasher, digest))
+    status_of(write_digest_of(hasher, digest))
 }

@@ -7,7 +7,7 @@ ghost use Rattle.jj_core_c.specs.HexResults.{IsDecodingCause, IsPrefixCause, Rep
 ghost use Rattle.jj_core_c.specs.Statuses.{Returns};
 
 use crate::buffers::write_bytes;
-use crate::error::{Error, number};
+use crate::error::{Error, status_of};
 use jj_content::hex_util::{decode_hex, decode_reverse_hex, encode_hex, encode_reverse_hex};
 use jj_ids::object_id::{CommitId, HexPrefix};
 use std::alloc::{AllocError, Global};
@@ -108,7 +108,7 @@ pub extern "C" fn jj_hex_encode(alloc: Global, bytes: &[u8], reverse: bool, text
         (Writes text.old text.new (encode_with (alphabet reverse) bytes.now))
         (Fails text.old text.new (IsBufferCause (2 * length bytes.now) (length text.old))) }
 {
-    number(encode(alloc, bytes, reverse, text))
+    status_of(encode(alloc, bytes, reverse, text))
 }
 
 /// Writes the bytes that hex, or reverse hex, of either case encodes. Returns their number, half
@@ -122,7 +122,7 @@ pub extern "C" fn jj_hex_decode(alloc: Global, text: &[u8], reverse: bool, bytes
         (Fails bytes.old bytes.new
         (IsDecodingCause (alphabet reverse) text.now (length bytes.old))) }
 {
-    number(decode(alloc, text, reverse, bytes))
+    status_of(decode(alloc, text, reverse, bytes))
 }
 
 /// Returns 1 if the hex, or reverse hex, of an id begins with these digits of either case, else 0.
@@ -139,5 +139,5 @@ pub extern "C" fn jj_hex_prefix_matches(
         (ReportsPrefix (alphabet reverse) prefix.now id.now)
         (IsPrefixCause (alphabet reverse) prefix.now) }
 {
-    number(prefix_matches(alloc, prefix, reverse, id))
+    status_of(prefix_matches(alloc, prefix, reverse, id))
 }

@@ -15,7 +15,7 @@ ghost use Rattle.jj_core_c.specs.Pieces.{are_ends, pieces_of};
 ghost use Rattle.jj_core_c.specs.Statuses.{Accepts, Returns};
 
 use crate::buffers::write_indices;
-use crate::error::{Error, number};
+use crate::error::{Error, status_of};
 use crate::pieces::{are_ends, piece_at};
 use jj_merges::merge::{Merge, SameChange, trivial_merge};
 use smallvec::SmallVec;
@@ -139,7 +139,7 @@ fn resolved_piece(
     Ok(resolved_index(&terms, same_change))
 }
 
-fn rule(accept: bool) -> SameChange
+fn same_change_of(accept: bool) -> SameChange
     ensures { result ≡ same_change accept }
 {
     if accept {
@@ -162,7 +162,7 @@ fn resolve(alloc: Global, bytes: &[u8], ends: &[usize], accept: bool) -> Result<
     if ends.len() % 2 == 0 {
         return Err(Error::Terms);
     }
-    match resolved_piece(alloc, bytes, ends, rule(accept)) {
+    match resolved_piece(alloc, bytes, ends, same_change_of(accept)) {
         Ok(Some(index)) => Ok(index),
         Ok(None) => Err(Error::Conflict),
         Err(_) => Err(Error::Memory),
@@ -185,11 +185,11 @@ pub extern "C" fn jj_merge_simplify(
         (simplified_indices bytes_eq (pieces_of bytes.now ends.now))))
         (Fails kept.old kept.new (IsSimplifyCause bytes.now ends.now (length kept.old))) }
 {
-    number(simplify(alloc, bytes, ends, kept))
+    status_of(simplify(alloc, bytes, ends, kept))
 }
 
 /// Returns the index of a term that a merge resolves to. With `accept`, sides that made the same
-/// change resolve to it.
+/// change resolve to it. At most 2 · n · d comparisons for n terms with d distinct values.
 ///
 /// Errors: `Ends`, `Terms`, `Memory`, `Conflict`.
 #[unsafe(no_mangle)]
@@ -199,5 +199,5 @@ pub extern "C" fn jj_merge_resolve(alloc: Global, bytes: &[u8], ends: &[usize], 
         (ResolvesAt (same_change accept) (pieces_of bytes.now ends.now)))
         (IsResolveCause (same_change accept) bytes.now ends.now) }
 {
-    number(resolve(alloc, bytes, ends, accept))
+    status_of(resolve(alloc, bytes, ends, accept))
 }

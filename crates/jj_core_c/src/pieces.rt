@@ -2,7 +2,7 @@
 ghost use Rattle.std.specs.Prelude.{◌≡◌, ◌<◌, ◌≤◌, length, true, Some, slice_get, slice_index};
 ghost use Rattle.jj_core_c.specs.Pieces.{are_ends, pieces_of, start_of};
 
-// Whether the ends divide a list of `len` items.
+// Returns whether the ends divide a list of `len` items.
 pub(crate) fn are_ends(len: usize, ends: &[usize]) -> bool
     ensures { result ≡ are_ends len ends.now }
 {

@@ -7,7 +7,7 @@ ghost use Rattle.jj_core_c.specs.Statuses.{Accepts, Returns};
 ghost use Rattle.jj_core_c.specs.TreeWalks.{AreContained, AreTreeWalkArguments, CountsEntered, FindsListed, IsTreeWalkCause, WritesWalk};
 
 use crate::buffers::write_flags;
-use crate::error::{Error, number};
+use crate::error::{Error, status_of};
 use crate::paths::parse_paths;
 use crate::pieces::are_ends;
 use jj_matchers::laws::walks_find_accepted_marks;
@@ -127,5 +127,5 @@ pub extern "C" fn jj_walk(
         (Fails found.old found.new (IsTreeWalkCause listed.now listed_ends.now bytes.now ends.now
         (length found.old))) }
 {
-    number(walk(alloc, listed, listed_ends, prefixes, bytes, ends, found))
+    status_of(walk(alloc, listed, listed_ends, prefixes, bytes, ends, found))
 }

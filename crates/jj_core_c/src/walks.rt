@@ -1,4 +1,5 @@
-//! Adapters from graphs in arrays to the walks of `jj_dag`.
+//! Adapters from graphs in arrays to the walks of `jj_dag`. Nodes are below the number of lists, so
+//! sets of nodes are sparse sets, without hashing.
 ghost use Rattle.std.specs.Prelude.{◌≡◌, IfOk, IsOkAnd, MatchBool};
 ghost use Rattle.std.specs.Iterator.{YieldsFirst, item_count};
 ghost use Rattle.std.specs.Iterator.Adapters.{copied_source};
@@ -10,13 +11,15 @@ ghost use Rattle.jj_core_c.specs.ArrayGraphs.{HasCycle};
 ghost use Rattle.jj_core_c.specs.GraphViews.{graph_in};
 
 use crate::array_graph::ArrayGraph;
-use jj_dag::dag_walk::{WalkError, heads, topo_order_forward};
-use jj_dag::dag_walk_async::{closest_common_nodes, topo_order_reverse_ord};
+use jj_dag::dag_walk::{WalkError, heads_in, topo_order_forward_in};
+use jj_dag::dag_walk_async::{NodeState, closest_common_nodes_in, topo_order_reverse_ord};
+use jj_dag::dense_map::DenseMap;
+use jj_dag::dense_set::DenseSet;
 use std::alloc::{AllocError, Global};
 use std::iter::Copied;
 use std::slice;
 
-// Returns the targets of a node in the fallible form that `closest_common_nodes` takes.
+// Returns the targets of a node in the fallible form that `closest_common_nodes_in` takes.
 fn sound_targets_of<'a>(
     graph: &ArrayGraph<'a>,
     node: usize,
@@ -56,13 +59,17 @@ fn sound_items_of<'a>(graph: &ArrayGraph<'a>, node: usize) -> SoundNodes<'a>
     }
 }
 
-// Whether the graph has a cycle. A cycle passes through targets only.
+// Returns whether the graph has a cycle. A cycle passes through targets only.
 pub(crate) fn has_cycle(alloc: Global, graph: &ArrayGraph<'_>) -> Result<bool, AllocError>
     ensures { IfOk result (λ cyclic. MatchBool cyclic (HasCycle (graph_in graph.now))
         (¬ (HasCycle (graph_in graph.now)))) }
 {
-    let order = topo_order_forward(
+    let mut visiting = DenseSet::new(alloc);
+    let mut emitted = DenseSet::new(alloc);
+    let order = topo_order_forward_in(
         alloc,
+        &mut visiting,
+        &mut emitted,
         graph.all_targets().iter().copied(),
         |node: &usize| Ok(*node),
         |node: &usize| graph.targets_of(*node).iter().copied(),
@@ -115,13 +122,17 @@ pub(crate) fn ascending_heads(
         AreMaximalElements (graph_in graph.now) nodes.now heads.items) }
     ensures ascending { IfOk result (λ heads. IsStrictlyIncreasing heads.items) }
 {
-    let found = heads(
+    let mut heads = DenseSet::new(alloc);
+    let mut visited = DenseSet::new(alloc);
+    heads_in(
         alloc,
+        &mut heads,
+        &mut visited,
         nodes.iter().copied(),
         |node: &usize| Ok(*node),
         |node: &usize| graph.targets_of(*node).iter().copied(),
     )?;
-    let mut ascending: Vec<usize> = found.iter().copied().collect(alloc)?;
+    let mut ascending = Vec::from_slice(alloc, heads.as_slice())?;
     ascending.sort_unstable();
     Ok(ascending)
 }
@@ -138,8 +149,10 @@ pub(crate) fn ascending_common(
         AreClosestCommon (graph_in graph.now) set1.now set2.now common.items) }
     ensures ascending { IfOk result (λ common. IsStrictlyIncreasing common.items) }
 {
-    let found = closest_common_nodes(
+    let mut known: DenseMap<NodeState> = DenseMap::new(alloc);
+    let found = closest_common_nodes_in(
         alloc,
+        &mut known,
         set1.iter().copied(),
         set2.iter().copied(),
         |node: &usize| Ok(*node),

@@ -8,8 +8,8 @@ use Rattle.jj_core_c.specs.GraphViews.{graph_in}
 use Rattle.jj_core_c.proofs.WalkResults.{copied_nodes, implements_oks, model_of, no_error}
 use Rattle.jj_core_c.proofs.walks.ascending_common.Goals as goal
 
-pub closest_common_nodes-found-requires-clause-graph : goal.closest_common_nodes-found-requires-clause-graph
-closest_common_nodes-found-requires-clause-graph c = record {
+pub closest_common_nodes_in-found-requires-clause-graph : goal.closest_common_nodes_in-found-requires-clause-graph
+closest_common_nodes_in-found-requires-clause-graph c = record {
   id_fn = search rules;
   neighbors_fn = search (rules, of_calls);
   lists = always_returns_same _ _ _ (λ a r f h. (first_of (search rules, search (rules, of_calls, h)), search (rules, of_calls, h)));

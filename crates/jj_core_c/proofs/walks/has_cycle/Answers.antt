@@ -6,8 +6,8 @@ use Rattle.jj_core_c.specs.GraphViews.{graph_in}
 use Rattle.jj_core_c.proofs.WalkResults.{copied_nodes, implements_lists, model_of, none_at_targets}
 use Rattle.jj_core_c.proofs.walks.has_cycle.Goals as goal
 
-pub topo_order_forward-order-requires-clause-graph : goal.topo_order_forward-order-requires-clause-graph
-topo_order_forward-order-requires-clause-graph c = record {
+pub topo_order_forward_in-order-requires-clause-graph : goal.topo_order_forward_in-order-requires-clause-graph
+topo_order_forward_in-order-requires-clause-graph c = record {
   id_fn = search rules;
   neighbors_fn = search (rules, of_calls);
   lists = always_returns_same _ _ _ (λ a r f h. (λ it b. (search rules, search rules), search (rules, of_calls, h)));

@@ -1,6 +1,6 @@
 use Rattle.std.proofs.Common.{arith, refl}
 use Rattle.std.proofs.lemmas.Iterator.{YieldsList-from_range, items_from_collect}
-use Rattle.jj_core_c.proofs.flatten.first_indices.Goals as goal
+use Rattle.jj_core_c.proofs.flatten.indices_below.Goals as goal
 
 pub returns : goal.returns
 returns c = items_from_collect c.collect.result c.collect.ensures.ran (YieldsList-from_range 0 c.args.len c.args.len refl (omega arith))
