@@ -1,24 +1,26 @@
--- A grouped order of the nodes of a log is a log.
+-- A grouped order of the nodes of a log is a log with branches together.
 use Rattle.std.proofs.Common.{◌≡◌, ◌⊎◌, inl, inr, ◌∙◌, ℕ, zero, suc, ◌<◌, ◌==◌, Bool, true, false, true≢false, not, ◌&&◌, ◌||◌, None, List, [], ◌∷◌, ◌++◌, map, reverse, refl, sym, ap, subst, arith, eqb, ⊎_elim, append-nil, append_assoc}
-use Rattle.std.specs.List.{Contains, IsDistinct, list_any}
+use Rattle.std.specs.List.{Contains, IsDistinct, find, list_any}
+use Rattle.std.specs.Prelude.{MatchOption, ⊤}
 use Rattle.std.proofs.lemmas.Bool.{or_cases, or_left, or_right}
 use Rattle.std.proofs.lemmas.Bool.Decides.{Decides-eqb}
 use Rattle.std.proofs.lemmas.List.{map-append, reverse-append}
-use Rattle.std.proofs.lemmas.List.Elements.{Contains-append_right}
+use Rattle.std.proofs.lemmas.List.Elements.{Contains-append_cases, Contains-append_left, Contains-append_right}
 use Rattle.jj_dag.specs.Graph.{IsWalkOfLength, Precedes, StrictlyReaches}
 use Rattle.jj_walks.specs.declared.graph.GraphEdge.{GraphEdge}
 use Rattle.jj_walks.specs.declared.graph.GraphEdgeType.{GraphEdgeType}
 use Rattle.jj_walks.specs.declared.graph.GraphEdgeType.TheVariants.{Missing, Direct, Indirect}
-use Rattle.jj_walks.specs.Grouped.{AreReadChildFirst, Entry, is_in_graph, leads_to}
-use Rattle.jj_walks.specs.GroupedOrders.{AreApart, AreGrouped, IsGroupedOrder, IsWhole, MayFollow, has_node}
+use Rattle.jj_walks.specs.Grouped.{AreReadChildFirst, Entry, is_in_graph, leads_to, targets_of}
+use Rattle.jj_walks.specs.GroupedOrders.{AreApart, AreGrouped, IsGroupedOrder, IsWhole, MayFollow, has_node, is_ready}
 use Rattle.jj_walks.proofs.Expanding.{at_first, first_or_rest, in_map, in_rest, in_reverse}
 use Rattle.jj_log.specs.Edges.{IsOfType, LeadsTo, parent, over}
-use Rattle.jj_log.specs.Logs.{IsLog, LogNode, numbers_of}
+use Rattle.jj_log.specs.Logs.{IsGroupedLog, IsLastReady, IsLog, IsReady, LogNode, numbers_of}
 use Rattle.jj_log.specs.Numbers.{is_elided, is_visible, parents_of}
 use Rattle.jj_log.specs.declared.commits.NumberedCommit.{NumberedCommit}
 use Rattle.jj_log.proofs.Lists.{false_from, nothing}
 use Rattle.jj_log.proofs.NearTargets.{visible_listed}
 use Rattle.jj_log.proofs.NodeOrders.{HasNoRepeat, all_at, and_both, any_in, back_in_map, before_turned, distinct_turned, map_turned, no_repeat, not_again, not_before, split_at, turned_twice, unturned}
+use Rattle.jj_log.proofs.ReadyTargets.{all_from, find_last, newest_two, target_led_to, target_listed}
 
 abbrev pub Node : Type 0
 Node = Entry ℕ ℕ
@@ -258,10 +260,61 @@ module _ (commits : List NumberedCommit) where
           ap reverse (sym (map-append number spot.0 (to.0 ∷ spot.1)) ∙ ap numbers_of (sym spot.2)) ∙ numbers_turned in
           subst (λ z. Precedes (numbers_of order) a z) to.2 (subst (λ z. Precedes (numbers_of order) z to.0.0) from.2 (subst (λ (l : List ℕ). Precedes l from.0.0 to.0.0) whole found))
 
-      pub grouped_log : IsLog commits order
-      grouped_log = record {
+      is_log : IsLog commits order
+      is_log = record {
         all = λ n. (visible_there n, visible_back n);
         once = subst (IsDistinct eqb) numbers_turned (distinct_turned (numbers_of (reverse order)) (grouped_once (reverse order) newest_grouped));
         edges = λ x h. log.edges x (in_read x h);
         before = before;
       }
+
+      -- ---- branches are together
+
+      module _ (first : List LogNode) (node : LogNode) where
+        abbrev older : List LogNode
+        older = node ∷ reverse first
+
+        abbrev earlier : List ℕ
+        earlier = numbers_of first ++ node.0 ∷ []
+
+        to_older : (n : ℕ) → Contains earlier n → Contains (numbers_of older) n
+        to_older n h =
+            ⊎_elim (λ before. in_rest node.0 (numbers_of (reverse first)) n (subst (λ (l : List ℕ). Contains l n) (sym (map_turned number first)) (in_reverse (numbers_of first) n before)))
+            (λ own. ⊎_elim (λ same. subst (λ z. Contains (numbers_of older) z) same (at_first node.0 (numbers_of (reverse first)))) (λ none. nothing none) (first_or_rest node.0 [] n own)) (Contains-append_cases (numbers_of first) (node.0 ∷ []) n h)
+
+        to_earlier : (n : ℕ) → Contains (numbers_of older) n → Contains earlier n
+        to_earlier n h =
+            ⊎_elim (λ same. subst (λ z. Contains earlier z) same (Contains-append_right (numbers_of first) (node.0 ∷ []) node.0 (at_first node.0 [])))
+            (λ before. Contains-append_left (numbers_of first) (node.0 ∷ []) n (unturned (numbers_of first) n (subst (λ (l : List ℕ). Contains l n) (map_turned number first) before))) (first_or_rest node.0 (numbers_of (reverse first)) n h)
+
+        abbrev may_come : ℕ → Bool
+        may_come t = is_ready eqb (entries_of read) (map entry_of older) t
+
+        abbrev no_child_left : ℕ → Node → Bool
+        no_child_left t e = not (list_any (leads_to eqb t) e.edges) || has_node eqb (map entry_of older) e.id
+
+        ready_to_come : (t : ℕ) → IsReady order earlier t → may_come t ≡ true
+        ready_to_come t ready = all_from (no_child_left t) (entries_of read) (λ e inside.
+            let at = back_in_map entry_of read e (unturned (map entry_of read) e inside) in
+            subst (λ (f : Node). no_child_left t f ≡ true) at.2 (by_case at.0 at.1 (list_any (leads_to eqb t) at.0.1) refl))
+          where
+            by_case : (x : LogNode) → Contains read x → (b : Bool) → list_any (leads_to eqb t) x.1 ≡ b → no_child_left t (entry_of x) ≡ true
+            by_case x here true e = or_right (not (list_any (leads_to eqb t) x.1)) (has_node eqb (map entry_of older) x.0) (id_has older x.0 (to_older x.0 (ready x (in_order x here) (target_listed x.1 t e))))
+            by_case x here false e = or_left (not (list_any (leads_to eqb t) x.1)) (has_node eqb (map entry_of older) x.0) (ap not e)
+
+        come_ready : (t : ℕ) → may_come t ≡ true → IsReady order earlier t
+        come_ready t may x here leads =
+            let all = all_at (no_child_left t) (entries_of read) (entry_of x) may (in_reverse (map entry_of read) (entry_of x) (in_map entry_of read x (in_read x here))) in
+            let child = target_led_to x.1 t leads in
+            to_earlier x.0 (has_id older x.0 (⊎_elim (λ never. absurd (true≢false (sym never ∙ ap not child))) (λ has. has) (or_cases (not (list_any (leads_to eqb t) x.1)) (has_node eqb (map entry_of older) x.0) all)))
+
+        follows : (after : List LogNode) (next : LogNode) → order ≡ first ++ node ∷ next ∷ after → (target : ℕ) → IsLastReady order earlier (targets_of node.1) target → next.0 ≡ target
+        follows after next split target last =
+            let newest : reverse order ≡ reverse after ++ next ∷ older = ap reverse split ∙ newest_two first after node next in
+            let may = (grouped_rest (reverse after) (next ∷ older) (subst (λ (l : List LogNode). AreGroupedHere l) newest newest_grouped)).0 in
+            let found = ap (λ l. find may_come (reverse l)) last.split
+            ∙ find_last may_come last.before last.after target (λ u h. false_from (may_come u) (λ has. last.last u (unturned last.after u h) (come_ready u has))) (ready_to_come target last.ready) in
+            sym ((Decides-eqb target next.0).0 (subst (λ o. MatchOption o ⊤ (λ i. eqb i next.0 ≡ true)) found may.follows))
+
+      pub grouped_log : IsGroupedLog commits order
+      grouped_log = record { log = is_log; together = λ first after node next. follows first node after next }

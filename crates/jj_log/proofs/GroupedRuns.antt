@@ -20,7 +20,7 @@ use Rattle.jj_walks.proofs.Expanding.{at_first, first_or_rest, in_rest, in_rever
 use Rattle.jj_walks.proofs.GroupedOrders.{apart-rest}
 use Rattle.jj_walks.proofs.WholeGroupedRuns.{fails-for-cause, yields-grouped-orders}
 use Rattle.jj_log.specs.LogItems.{AreItemsOf, LogItem, StopsWith, YieldsItems}
-use Rattle.jj_log.specs.Logs.{IsLog, LogNode}
+use Rattle.jj_log.specs.Logs.{IsGroupedLog, IsLog, LogNode}
 use Rattle.jj_log.specs.declared.commits.NumberedCommit.{NumberedCommit}
 use Rattle.jj_log.proofs.GroupedLogs.{Node, entries_of, entry_of, grouped_log}
 use Rattle.jj_log.proofs.Lists.{nothing}
@@ -114,7 +114,7 @@ module _ {S F : Type 0} {returns : Shared F (Bor ℕ × Unit {0}) (Bor ℕ)} {st
       let is = order_is run.order yielded run.listed (λ e h. own_node nodes e (given_read (entries_of nodes) (reverse run.order) order.grouped e (in_reverse run.order e h))) in
       subst (λ (l : List Node). IsGroupedOrder eqb (entries_of nodes) None (reverse l)) is order
 
-  pub log_of_run : (commits : List NumberedCommit) → IsLog commits nodes → (yielded : List Read) → YieldsItems returns eqb steps s yielded → IsLog commits (map listed_item yielded)
+  pub log_of_run : (commits : List NumberedCommit) → IsLog commits nodes → (yielded : List Read) → YieldsItems returns eqb steps s yielded → IsGroupedLog commits (map listed_item yielded)
   log_of_run commits log yielded drains = grouped_log commits nodes log (map listed_item yielded) (grouped_of yielded drains)
 
   module _ (begun : (xs : List LogItem) (t : S) → Yields steps input xs t → (rest : List LogItem) × (items ≡ xs ++ rest)) where

@@ -4,6 +4,7 @@ mod Reaching
 mod Adding
 mod NearTargets
 mod NodeOrders
+mod ReadyTargets
 mod GroupedLogs
 mod GroupedRuns
 mod VisibleItems
@@ -12,3 +13,4 @@ mod DrawnRows
 mod WideRows
 mod Interning
 mod ReadLines
+mod ReportedLines

@@ -3,7 +3,7 @@
 use Rattle.std.specs.Prelude.{List}
 use Rattle.jj_dag.specs.Graph.{StrictlyReaches}
 use Rattle.jj_log.specs.Columns.{IsTooWide}
-use Rattle.jj_log.specs.Logs.{IsLog, LogNode}
+use Rattle.jj_log.specs.Logs.{IsGroupedLog, LogNode}
 use Rattle.jj_log.specs.Numbers.{parents_of}
 use Rattle.jj_log.specs.declared.commits.NumberedCommit.{NumberedCommit}
 use Rattle.jj_log.specs.declared.fault.LogError.{LogError}
@@ -22,7 +22,9 @@ IsLayoutError nodes Memory = Unit {0}
 IsLayoutError nodes (TooWide n) = IsTooWide nodes n
 IsLayoutError nodes error = ⊥
 
--- the error of the rows of numbered commits: that of their order, or a row of their log is too wide
+-- the error of the rows of numbered commits: that of their order, or a row of their log, with
+-- branches together, is too wide
 abbrev pub IsRowsError : List NumberedCommit → LogError → Type 0
-IsRowsError commits (TooWide n) = (nodes : List LogNode) × IsLog commits nodes × IsTooWide nodes n
+IsRowsError commits (TooWide n) = (nodes : List LogNode) × IsGroupedLog commits nodes
+    × IsTooWide nodes n
 IsRowsError commits error = IsOrderError commits error

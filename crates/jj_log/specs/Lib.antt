@@ -13,3 +13,4 @@ pub mod Numbering
 pub mod LogDrawings
 pub mod InputLines
 pub mod Runs
+pub mod Reports

@@ -5,7 +5,7 @@ use Rattle.jj_log.specs.Columns.{AreRows, node_of_row}
 use Rattle.jj_log.specs.Drawing.{AreDrawn}
 use Rattle.jj_log.specs.Failures.{IsRowsError}
 use Rattle.jj_log.specs.Labels.{label_of}
-use Rattle.jj_log.specs.Logs.{IsLog}
+use Rattle.jj_log.specs.Logs.{IsGroupedLog}
 use Rattle.jj_log.specs.Numbering.{AreNumbered, IsNumberingError}
 use Rattle.jj_log.specs.declared.commits.Commit.{Commit}
 use Rattle.jj_log.specs.declared.commits.NumberedCommit.{NumberedCommit}
@@ -13,13 +13,13 @@ use Rattle.jj_log.specs.declared.fault.LogError.{LogError}
 use Rattle.jj_log.specs.declared.fault.LogError.TheVariants.{Memory, RepeatedName}
 use Rattle.jj_log.specs.declared.layout.Row.{Row}
 
--- the commits were numbered by their names, their log was laid out in rows, and these were drawn
--- with the labels of the commits
+-- the commits were numbered by their names, their log, with branches together, was laid out in
+-- rows, and these were drawn with the labels of the commits
 pub record IsDrawing (commits : List Commit) (drawing : List ℕ) : Type 0 where
   pub numbered : List NumberedCommit
   pub are_numbered : AreNumbered commits numbered
   pub rows : List Row
-  pub log : IsLog numbered (map node_of_row rows)
+  pub log : IsGroupedLog numbered (map node_of_row rows)
   pub last : List ℕ
   pub columns : AreRows [] rows last
   pub drawn : AreDrawn (label_of commits) rows drawing

@@ -4,7 +4,7 @@
 use Rattle.std.specs.Prelude.{◌≡◌, ℕ, Bool, true, false, List, get_or, Result, Ok, Err}
 use Rattle.std.specs.Io.KnownBytes.{Appends, Consumes, IsAtEnd}
 use Rattle.std.specs.Str.{IsUtf8}
-use Rattle.jj_files.specs.Streams.{Streams}
+use Rattle.jj_files.specs.Streams.{AppendsPrefixOf, Streams}
 use Rattle.jj_log.specs.InputLines.{AreCommitsOf, DrawsInput, IsParseFault}
 use Rattle.jj_log.specs.LogDrawings.{IsLogError}
 use Rattle.jj_log.specs.declared.commits.Commit.{Commit}
@@ -14,10 +14,14 @@ use Rattle.jj_log.specs.declared.fault.LineFault.TheVariants.{RepeatedName, Cycl
 use Rattle.jj_log.specs.declared.fault.LogError.{LogError}
 use Rattle.jj_log.specs.declared.fault.LogError.TheVariants.{RepeatedName as repeated_name, Cycle as cycle, TooWide as too_wide}
 
+-- the source was read to its end, and these were its bytes
+abbrev pub ReadsAll : Streams → Streams → List ℕ → Type 0
+ReadsAll old new input = Consumes old.unread new.unread input × IsAtEnd new.unread
+
 -- the source was read to its end, and the drawing of the commits of its lines was written
 abbrev pub WritesLog : Streams → Streams → Type 0
-WritesLog old new = (input drawing : List ℕ) × Consumes old.unread new.unread input
-    × IsAtEnd new.unread × DrawsInput input drawing × Appends old.written new.written drawing
+WritesLog old new = (input drawing : List ℕ) × ReadsAll old new input × DrawsInput input drawing
+    × Appends old.written new.written drawing
 
 abbrev pub is_read_failure : Fault → Bool
 is_read_failure ReadInput = true
@@ -51,11 +55,11 @@ IsInputFault input (Line number Cycle) = IsLogFault cycle input number
 IsInputFault input (Line number TooWide) = IsLogFault too_wide input number
 IsInputFault input fault = IsParseFault input fault
 
--- the cause of a failed run: a fault of the input that was read, or memory ran out; failed reads
--- and writes are known by the streams
+-- the cause of a failed run: the source was read to its end, and its bytes have the fault, or a
+-- prefix of their drawing was written; or a read failed, or memory ran out
 abbrev pub FailsBy : Streams → Streams → Fault → Type 0
 FailsBy old new ReadInput = Unit {0}
-FailsBy old new WriteOutput = Unit {0}
 FailsBy old new Memory = Unit {0}
-FailsBy old new fault = (input : List ℕ) × Consumes old.unread new.unread input
-    × IsInputFault input fault
+FailsBy old new WriteOutput = (input drawing : List ℕ) × ReadsAll old new input
+    × DrawsInput input drawing × AppendsPrefixOf old.written new.written drawing
+FailsBy old new fault = (input : List ℕ) × ReadsAll old new input × IsInputFault input fault

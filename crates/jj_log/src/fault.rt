@@ -1,5 +1,6 @@
 //! Error types of the log.
-ghost use Rattle.std.specs.Prelude.{◌≡◌};
+ghost use Rattle.std.specs.Prelude.{◌≡◌, ◌++◌, Some};
+ghost use Rattle.jj_log.specs.Reports.{fault_text, line_fault_text};
 ghost use Rattle.jj_log.specs.declared.fault.Fault.{Fault};
 ghost use Rattle.jj_log.specs.declared.fault.LogError.{LogError};
 
@@ -18,7 +19,7 @@ pub enum LineFault {
     BadName,
     /// An earlier line has the name.
     RepeatedName,
-    /// The commit is among its own ancestors, or one of its ancestors is.
+    /// The commit is its own ancestor.
     Cycle,
     /// The row of the commit needs more than `MAX_COLUMNS` columns.
     TooWide,
@@ -51,7 +52,9 @@ pub enum Fault {
 const _: () = prove!(MAX_COLUMNS == 500);
 
 impl LineFault {
-    fn as_str(self) -> &'static str {
+    fn as_str(self) -> &'static str
+        ensures { result.now ≡ line_fault_text self }
+    {
         match self {
             LineFault::MissingParents => "no TAB after the name",
             LineFault::BadName => "bad name",
@@ -64,7 +67,9 @@ impl LineFault {
 
 impl Fault {
     // The message as four parts to be concatenated; a number is formatted into `digits`.
-    pub(crate) fn as_parts(self, digits: &mut Buffer) -> (&str, &str, &str, &str) {
+    pub(crate) fn as_parts(self, digits: &mut Buffer) -> (&str, &str, &str, &str)
+        ensures { result.0.now ++ result.1.now ++ result.2.now ++ result.3.now ≡ fault_text self }
+    {
         match self {
             Fault::ReadInput => ("cannot read input", "", "", ""),
             Fault::NotUtf8 => ("input is not UTF-8", "", "", ""),
@@ -76,6 +81,8 @@ impl Fault {
 }
 
 impl fmt::Display for Fault {
+    ghost output = { λ fault. Some (fault_text fault) };
+
     fn fmt<W: fmt::Write>(&self, f: &mut fmt::Formatter<W>) -> fmt::Result {
         let mut digits = Buffer::new();
         let (first, second, third, fourth) = self.as_parts(&mut digits);

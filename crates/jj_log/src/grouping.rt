@@ -2,7 +2,7 @@
 ghost use Rattle.std.specs.Prelude.{◌≡◌, ◌⊎◌, IfOk, IfErr, OnOk, List, map};
 ghost use Rattle.jj_log.specs.Failures.{IsOrderError};
 ghost use Rattle.jj_log.specs.LogItems.{AddsVisible, AreItemsOf, AreVisibleItems, StopsWith, YieldsItems};
-ghost use Rattle.jj_log.specs.Logs.{IsLog, LogNode};
+ghost use Rattle.jj_log.specs.Logs.{IsGroupedLog, IsLog, LogNode};
 ghost use Rattle.jj_log.specs.Orders.{IsCommitOrder};
 ghost use Rattle.jj_log.specs.Targets.{KnowsTargets};
 ghost use Rattle.jj_walks.specs.GroupedSteps.{CanRead};
@@ -96,9 +96,9 @@ fn group(
 ) -> Result<Vec<GraphNode<usize>>, AllocError>
     requires child_first { (nodes : List LogNode) × AreItemsOf nodes items.items
         × IsLog commits.now nodes }
-    ensures { IfOk result (λ order. IsLog commits.now (map listed_item order.items)) }
+    ensures { IfOk result (λ order. IsGroupedLog commits.now (map listed_item order.items)) }
 {
-    // The commits are only those of which the contract speaks.
+    // Only the contract mentions commits.
     let _ = commits;
     let graph = TopoGroupedGraph::new(alloc, items.into_iter(), number_of);
     match collect_nodes(alloc, graph.stream()) {
@@ -119,7 +119,7 @@ pub fn log_nodes(
     alloc: Global,
     commits: &[NumberedCommit],
 ) -> Result<Vec<GraphNode<usize>>, LogError>
-    ensures log { IfOk result (λ nodes. IsLog commits.now (map listed_item nodes.items)) }
+    ensures log { IfOk result (λ nodes. IsGroupedLog commits.now (map listed_item nodes.items)) }
     ensures error { IfErr result (IsOrderError commits.now) }
 {
     let order = order_commits(alloc, commits)?;

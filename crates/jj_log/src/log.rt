@@ -4,7 +4,7 @@ ghost use Rattle.jj_log.specs.Columns.{AreRows, node_of_row};
 ghost use Rattle.jj_log.specs.Drawing.{AreDrawn};
 ghost use Rattle.jj_log.specs.Failures.{IsRowsError};
 ghost use Rattle.jj_log.specs.LogDrawings.{IsDrawing, IsLogError};
-ghost use Rattle.jj_log.specs.Logs.{IsLog};
+ghost use Rattle.jj_log.specs.Logs.{IsGroupedLog};
 ghost use Rattle.jj_log.specs.Labels.{label_of};
 ghost use Rattle.jj_log.specs.declared.layout.Row.{Row};
 
@@ -17,11 +17,12 @@ use crate::numbering::number_commits;
 use std::alloc::{AllocError, Global};
 
 /// Returns the log of these commits in rows: each visible commit once, with its edges, and before
-/// its ancestors. Branches are together, and the last commit of the list comes first where there is
-/// a choice. Fails with `Cycle` of a commit on a cycle of parents, with `TooWide` of the first
-/// commit whose row needs more than `MAX_COLUMNS` columns, and with `Memory` if memory runs out.
+/// its ancestors. Branches are together: a commit is followed by the last target whose children all
+/// came before, if there is one. Fails with `Cycle` of a commit on a cycle of parents, with
+/// `TooWide` of the first commit whose row needs more than `MAX_COLUMNS` columns, and with `Memory`
+/// if memory runs out.
 pub fn log_rows(alloc: Global, commits: &[NumberedCommit]) -> Result<Vec<Row>, LogError>
-    ensures log { IfOk result (λ rows. IsLog commits.now (map node_of_row rows.items)) }
+    ensures log { IfOk result (λ rows. IsGroupedLog commits.now (map node_of_row rows.items)) }
     ensures columns { IfOk result (λ rows. (last : List ℕ) × AreRows [] rows.items last) }
     ensures error { IfErr result (IsRowsError commits.now) }
 {

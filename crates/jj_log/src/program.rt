@@ -1,9 +1,10 @@
 //! Entry points of the program: read the whole input, draw its log, write the whole output.
-ghost use Rattle.std.specs.Prelude.{◌≡◌, ◌≢◌, ℕ, ◌<◌, false, List, IfOk, IfErr, OnOk, get_or, string_bytes};
+ghost use Rattle.std.specs.Prelude.{◌≡◌, ◌≢◌, ℕ, ◌<◌, false, List, IfOk, IfErr, OnOk, flat_map, get_or, string_bytes};
 ghost use Rattle.std.specs.Io.KnownBytes.{Consumes, IsAtEnd};
 ghost use Rattle.jj_files.specs.Streams.{streams};
 ghost use Rattle.jj_log.specs.InputLines.{AreCommitsOf, DrawsInput};
 ghost use Rattle.jj_log.specs.LogDrawings.{IsLogError};
+ghost use Rattle.jj_log.specs.Reports.{Reports, report_text};
 ghost use Rattle.jj_log.specs.Runs.{FailsBy, IsInputFault, WritesLog, is_read_failure, is_read_fault, is_write_failure, is_write_fault};
 ghost use Rattle.jj_log.specs.declared.commits.Commit.{Commit};
 ghost use Rattle.jj_log.specs.declared.fault.Fault.{Fault};
@@ -43,10 +44,7 @@ fn read_input<R: Source>(alloc: Global, reader: &mut R) -> Result<Vec<u8>, Fault
 fn line_at(lines: &[usize], index: usize) -> usize
     ensures { result ≡ get_or lines.now index 0 }
 {
-    match lines.get(index) {
-        Some(line) => *line,
-        None => 0,
-    }
+    lines.get(index).copied().unwrap_or(0)
 }
 
 fn fault_of(error: LogError, lines: &[usize]) -> Fault
@@ -110,7 +108,11 @@ pub fn run<R: Source, W: Sink>(alloc: Global, reader: &mut R, writer: &mut W) ->
     Ok(())
 }
 
-fn write_parts<E: Sink>(errors: &mut E, parts: &[&str]) {
+// Writes these parts of a line, and stops silently at the first write that fails.
+fn write_parts<E: Sink>(errors: &mut E, parts: &[&str])
+    ensures { Reports (E.contents errors.old) (E.contents errors.new) (E.has_failed errors.new)
+        (flat_map (λ part. part.now) parts.now) }
+{
     for index in 0..parts.len() {
         if write_all(errors, parts[index].as_bytes()).is_err() {
             return;
@@ -118,8 +120,17 @@ fn write_parts<E: Sink>(errors: &mut E, parts: &[&str]) {
     }
 }
 
+fn report_fault<E: Sink>(errors: &mut E, fault: Fault)
+    ensures { Reports (E.contents errors.old) (E.contents errors.new) (E.has_failed errors.new)
+        (report_text fault) }
+{
+    let mut digits = Buffer::new();
+    let (first, second, third, fourth) = fault.as_parts(&mut digits);
+    write_parts(errors, &["jj-log: ", first, second, third, fourth, "\n"]);
+}
+
 /// Runs the program, and returns its exit status: 0, or 1 after a fault, with a line about it on
-/// `errors`.
+/// `errors`. Error reporting does not allocate; a failing `errors` does not change the status.
 pub fn start<R: Source, W: Sink, E: Sink>(
     alloc: Global,
     reader: &mut R,
@@ -130,20 +141,22 @@ pub fn start<R: Source, W: Sink, E: Sink>(
     ensures success { result ≡ 0 → WritesLog
         (streams (R.remaining reader.old) (W.contents writer.old))
         (streams (R.remaining reader.new) (W.contents writer.new))
+        × (R.has_failed reader.old ≡ false → R.has_failed reader.new ≡ false)
+        × (W.has_failed writer.old ≡ false → W.has_failed writer.new ≡ false)
         × (E.contents errors.new ≡ E.contents errors.old) }
     ensures failure { result ≡ 1 → (fault : Fault) × FailsBy
         (streams (R.remaining reader.old) (W.contents writer.old))
         (streams (R.remaining reader.new) (W.contents writer.new)) fault
         × (fault ≢ Fault.WriteOutput → W.contents writer.new ≡ W.contents writer.old)
         × (R.has_failed reader.old ≡ false → R.has_failed reader.new ≡ is_read_failure fault)
-        × (W.has_failed writer.old ≡ false → W.has_failed writer.new ≡ is_write_failure fault) }
+        × (W.has_failed writer.old ≡ false → W.has_failed writer.new ≡ is_write_failure fault)
+        × Reports (E.contents errors.old) (E.contents errors.new) (E.has_failed errors.new)
+        (report_text fault) }
 {
     match run(alloc, reader, writer) {
         Ok(()) => 0,
         Err(fault) => {
-            let mut digits = Buffer::new();
-            let (first, second, third, fourth) = fault.as_parts(&mut digits);
-            write_parts(errors, &["jj-log: ", first, second, third, fourth, "\n"]);
+            report_fault(errors, fault);
             1
         }
     }
