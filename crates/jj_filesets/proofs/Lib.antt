@@ -1,5 +1,6 @@
 mod Derived
 mod Parsed
+mod OneError
 mod Trees
 mod Unique
 mod Selecting

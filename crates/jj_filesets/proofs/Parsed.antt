@@ -1,12 +1,11 @@
 -- The grammar derives what the parser reads.
-use Rattle.std.proofs.Common.{◌≡◌, ◌∙◌, ℕ, List, [], ◌∷◌, ◌++◌, Result, Ok, Err, Option, None, Some, ap, sym, refl, subst, append_assoc, append-nil, lit<}
-use Rattle.std.proofs.lemmas.List.Elements.{Contains-append_left, Contains-append_right}
+use Rattle.std.proofs.Common.{◌≡◌, ◌≢◌, ◌∙◌, ℕ, List, [], ◌∷◌, ◌++◌, Result, Ok, Err, ap, sym, refl, subst, append_assoc, append-nil}
 use Rattle.jj_filesets.specs.declared.fileset.error.FilesetParseError.{FilesetParseError}
 use Rattle.jj_filesets.specs.declared.fileset.error.FilesetParseError.TheVariants.{Syntax}
 use Rattle.jj_filesets.specs.declared.fileset.error.FilesetParseErrorKind.{FilesetParseErrorKind}
 use Rattle.jj_filesets.specs.declared.fileset.error.FilesetParseErrorKind.TheVariants.{ExpectedOperand, ExpectedOperator, UnopenedParenthesis, UnclosedParenthesis}
 use Rattle.jj_filesets.specs.declared.fileset.pattern.FilePattern.TheVariants.{Nothing}
-use Rattle.jj_filesets.specs.Expressions.{Begins, HasFirstWrong, IsTokenOrderError}
+use Rattle.jj_filesets.specs.Expressions.{Begins, OperandMayFollow, IsTokenOrderError}
 use Rattle.jj_filesets.proofs.Derived.{parses}
 use Rattle.jj_filesets.specs.declared.fileset.parser.Pending.{Pending}
 use Rattle.jj_filesets.specs.declared.fileset.parser.Pending.TheVariants.{Group, Operator as operator}
@@ -24,10 +23,10 @@ use Rattle.jj_filesets.proofs.Derived.{IsClosed, one_step, two_steps}
 
 -- 1. The tokens before an expression, a term or a factor, with the operators and groups that are pending and the program so far.
 
-abbrev mark : ℕ → Token → Lexeme
+abbrev pub mark : ℕ → Token → Lexeme
 mark at token = record { at = at; token = token }
 
-data At : Level → List Lexeme → List Pending → List Step → Type 0 where
+pub data At : Level → List Lexeme → List Pending → List Step → Type 0 where
   start : At expression [] [] []
   in_group : {at : ℕ} {us : List Lexeme} {ps : List Pending} {steps : List Step} → At factor us ps steps
       → At expression (us ++ mark at Open ∷ []) (Group at ∷ ps) steps
@@ -43,7 +42,7 @@ data At : Level → List Lexeme → List Pending → List Step → Type 0 where
       → At factor (us ++ mark at Tilde ∷ []) (operator Complement ∷ ps) steps
 
 -- the tokens so far, and the last term among them
-record After (us : List Lexeme) (ps : List Pending) (steps : List Step) : Type 0 where
+pub record After (us : List Lexeme) (ps : List Pending) (steps : List Step) : Type 0 where
   vs : List Lexeme
   ws : List Lexeme
   earlier : List Step
@@ -53,7 +52,7 @@ record After (us : List Lexeme) (ps : List Pending) (steps : List Step) : Type 0
   tokens : us ≡ vs ++ ws
   program : steps ≡ earlier ++ postfix set
 
-abbrev Holds : List Lexeme → State → Type 0
+abbrev pub Holds : List Lexeme → State → Type 0
 Holds us (before ps steps) = At factor us ps steps
 Holds us (after ps steps) = After us ps steps
 
@@ -252,7 +251,7 @@ continues {ws = ws} (after_not at {us = us} a) e =
     let (rest, whole-set, f) = continues a (negated {at = at} e) in
     (rest, whole-set, subst (λ l. Derives expression l whole-set) (simp append_assoc) f)
 
-begins : (us : List Lexeme) (state : State) → Holds us state → Begins us
+pub begins : (us : List Lexeme) (state : State) → Holds us state → Begins us
 begins us (before ps steps) a =
     let (rest, set, d) = continues a (operand {at = 0} {leaf = Nothing}) in
     (mark 0 (Operand Nothing) ∷ rest, set, subst (λ l. Derives expression l set) (append_assoc us (mark 0 (Operand Nothing) ∷ []) rest) d)
@@ -261,9 +260,12 @@ begins us (after ps steps) a = subst Begins (sym a.tokens) (continues a.context 
 -- 7. Errors.
 
 -- the parser comes to the state by the tokens
-record Reaches (len : ℕ) (us : List Lexeme) (state : State) : Type 0 where
-  holds : Holds us state
-  runs : (ls : List Lexeme) → parsed_after len (Ok (before [] [])) (us ++ ls) ≡ parsed_after len (Ok state) ls
+pub record Reaches (len : ℕ) (us : List Lexeme) (state : State) : Type 0 where
+  pub holds : Holds us state
+  pub runs : (ls : List Lexeme) → parsed_after len (Ok (before [] [])) (us ++ ls) ≡ parsed_after len (Ok state) ls
+
+pub starts : (len : ℕ) → Reaches len [] (before [] [])
+starts len = record { holds = first_factor (first_term start); runs = λ ms. refl }
 
 -- tokens that end in an error derive nothing
 pub underived : (len : ℕ) (us : List Lexeme) (error : FilesetParseError) → parsed_after len (Ok (before [] [])) us ≡ Err error → (set : SyntaxTree) → Derives expression us set → ⊥
@@ -278,56 +280,82 @@ stuck len us state l error r h (rest, set, d) =
     underived len ((us ++ l ∷ []) ++ rest) error
     (ap (parsed_after len (Ok (before [] []))) (append_assoc us (l ∷ []) rest) ∙ r.runs (l ∷ rest) ∙ ap (λ found. parsed_after len found rest) h) set d
 
--- the error of a token
-record IsAt (at : ℕ) (error : FilesetParseError) : Type 0 where
+-- the error of a token after others
+record IsAt (len : ℕ) (us : List Lexeme) (l : Lexeme) (error : FilesetParseError) : Type 0 where
   kind : FilesetParseErrorKind
-  is : error ≡ Syntax at kind
-  place : (len : ℕ) (lexemes : List Lexeme) → HasFirstWrong len lexemes at → IsTokenOrderError len lexemes at kind
+  is : error ≡ Syntax l.at kind
+  order : (ls : List Lexeme) → Begins us → (Begins (us ++ l ∷ []) → ⊥) → IsTokenOrderError len (us ++ l ∷ ls) l.at kind
 
-no_operand : (at : ℕ) (error : FilesetParseError) (found : Result State FilesetParseError) → found ≡ Err (Syntax at ExpectedOperand) → found ≡ Err error → IsAt at error
-no_operand at error found e h = record { kind = ExpectedOperand; is = cc; place = λ len ls w. w }
+-- an operand may follow where the parser expects one, and not after another
+pub operand_follows : (us : List Lexeme) (ps : List Pending) (steps : List Step) → At factor us ps steps → OperandMayFollow us
+operand_follows us ps steps a = (0, Nothing, continues a (operand {at = 0} {leaf = Nothing}))
 
-no_operator : (at : ℕ) (error : FilesetParseError) (found : Result State FilesetParseError) → found ≡ Err (Syntax at ExpectedOperator) → found ≡ Err error → IsAt at error
-no_operator at error found e h = record { kind = ExpectedOperator; is = cc; place = λ len ls w. w }
+pub no_operand_follows : (len : ℕ) (us : List Lexeme) (ps : List Pending) (steps : List Step) → Reaches len us (after ps steps) → OperandMayFollow us → ⊥
+no_operand_follows len us ps steps r (at, leaf, begun) = stuck len us (after ps steps) (mark at (Operand leaf)) (Syntax at ExpectedOperator) r refl begun
 
-unopened : (at : ℕ) (found : Option ℕ) (ps : List Pending) (steps : List Step) (error : FilesetParseError) → after_close at found ps steps ≡ Err error → IsAt at error
-unopened at None ps steps error h = record { kind = UnopenedParenthesis; is = cc; place = λ len ls w. w }
-unopened at (Some from) ps steps error h = cc
+no_operand : (len : ℕ) (us : List Lexeme) (ps : List Pending) (steps : List Step) (at : ℕ) (token : Token) (error : FilesetParseError) → At factor us ps steps
+    → Syntax at ExpectedOperand ≡ error → IsAt len us (mark at token) error
+no_operand len us ps steps at token error a is =
+    record { kind = ExpectedOperand; is = sym is; order = λ ls begun wrong. (us, mark at token ∷ ls, refl, begun, (refl, wrong), operand_follows us ps steps a) }
 
-at_token : (state : State) (at : ℕ) (token : Token) (error : FilesetParseError) → after_token state at token ≡ Err error → IsAt at error
-at_token (before ps steps) at (Operand leaf) error h = cc
-at_token (before ps steps) at Tilde error h = cc
-at_token (before ps steps) at Open error h = cc
-at_token (before ps steps) at Close error h = no_operand at error _ refl h
-at_token (before ps steps) at Bar error h = no_operand at error _ refl h
-at_token (before ps steps) at Ampersand error h = no_operand at error _ refl h
-at_token (after ps steps) at Ampersand error h = cc
-at_token (after ps steps) at Tilde error h = cc
-at_token (after ps steps) at Bar error h = cc
-at_token (after ps steps) at Close error h = unopened at (unwound ps steps).0 (unwound ps steps).1 (unwound ps steps).2 error h
-at_token (after ps steps) at Open error h = no_operator at error _ refl h
-at_token (after ps steps) at (Operand leaf) error h = no_operator at error _ refl h
+no_operator : (len : ℕ) (us : List Lexeme) (ps : List Pending) (steps : List Step) (at : ℕ) (token : Token) (error : FilesetParseError) → Reaches len us (after ps steps)
+    → token ≢ Close → Syntax at ExpectedOperator ≡ error → IsAt len us (mark at token) error
+no_operator len us ps steps at token error r other is =
+    record { kind = ExpectedOperator; is = sym is; order = λ ls begun wrong. (us, mark at token ∷ ls, refl, begun, (refl, wrong), (no_operand_follows len us ps steps r, other)) }
+
+-- a parenthesis is unopened after a whole expression
+unopened : {vs ws : List Lexeme} {qs : List Pending} {earlier : List Step} {set : SyntaxTree} (at : ℕ) (error : FilesetParseError) → At expression vs qs earlier
+    → Derives expression ws set → after_close at (unwound qs (earlier ++ postfix set)).0 (unwound qs (earlier ++ postfix set)).1 (unwound qs (earlier ++ postfix set)).2 ≡ Err error
+    → (Syntax at UnopenedParenthesis ≡ error) × (whole-set : SyntaxTree) × Derives expression (vs ++ ws) whole-set
+unopened {set = set} at error start d h = (cc, set, d)
+unopened at error (in_group a) d h = cc
+
+at_close : (len : ℕ) (us : List Lexeme) (ps : List Pending) (steps : List Step) (at : ℕ) (error : FilesetParseError) → Whole us ps steps
+    → after_close at (unwound ps steps).0 (unwound ps steps).1 (unwound ps steps).2 ≡ Err error → IsAt len us (mark at Close) error
+at_close len us ps steps at error w h =
+    let (is, set, d) = unopened at error w.context w.derives (ap (λ u. after_close at u.0 u.1 u.2) (sym w.unwinds) ∙ h) in
+    record {
+      kind = UnopenedParenthesis;
+      is = sym is;
+      order = λ ls begun wrong. (us, mark at Close ∷ ls, refl, begun, (refl, wrong), ((set, subst (λ l. Derives expression l set) (sym w.tokens) d), refl));
+    }
+
+at_token : (len : ℕ) (us : List Lexeme) (state : State) (at : ℕ) (token : Token) (error : FilesetParseError) → Reaches len us state → after_token state at token ≡ Err error
+    → IsAt len us (mark at token) error
+at_token len us (before ps steps) at (Operand leaf) error r h = cc
+at_token len us (before ps steps) at Tilde error r h = cc
+at_token len us (before ps steps) at Open error r h = cc
+at_token len us (before ps steps) at Close error r h = no_operand len us ps steps at Close error r.holds (cc)
+at_token len us (before ps steps) at Bar error r h = no_operand len us ps steps at Bar error r.holds (cc)
+at_token len us (before ps steps) at Ampersand error r h = no_operand len us ps steps at Ampersand error r.holds (cc)
+at_token len us (after ps steps) at Ampersand error r h = cc
+at_token len us (after ps steps) at Tilde error r h = cc
+at_token len us (after ps steps) at Bar error r h = cc
+at_token len us (after ps steps) at Close error r h = at_close len us ps steps at error (whole us ps steps r.holds) h
+at_token len us (after ps steps) at Open error r h = no_operator len us ps steps at Open error r (λ e. cc) (cc)
+at_token len us (after ps steps) at (Operand leaf) error r h = no_operator len us ps steps at (Operand leaf) error r (λ e. cc) (cc)
 
 -- the cause of an error of the parser
 abbrev IsCause : ℕ → List Lexeme → FilesetParseError → Type 0
 IsCause len lexemes error = (at : ℕ) × (kind : FilesetParseErrorKind) × (error ≡ Syntax at kind) × IsTokenOrderError len lexemes at kind
 
-opened : {vs : List Lexeme} {qs : List Pending} {earlier : List Step} (len : ℕ) (ws : List Lexeme) (steps : List Step) (error : FilesetParseError) → At expression vs qs earlier
-    → Begins (vs ++ ws) → whole_program (unwound qs steps).0 (unwound qs steps).2 ≡ Err error → IsCause len (vs ++ ws) error
-opened len ws steps error start b h = cc
-opened len ws steps error (in_group {at = at} {us = us} a) b h =
-    (at, UnclosedParenthesis, cc, (b, Contains-append_left (us ++ mark at Open ∷ []) ws (mark at Open) (Contains-append_right us (mark at Open ∷ []) (mark at Open) (0, lit< tt, refl))))
+-- the innermost parenthesis that is not closed is before a whole expression
+opened : {vs ws : List Lexeme} {qs : List Pending} {earlier : List Step} {set : SyntaxTree} (len : ℕ) (steps : List Step) (error : FilesetParseError) → At expression vs qs earlier
+    → Derives expression ws set → Begins (vs ++ ws) → whole_program (unwound qs steps).0 (unwound qs steps).2 ≡ Err error → IsCause len (vs ++ ws) error
+opened len steps error start d b h = cc
+opened {ws = ws} {set = set} len steps error (in_group {at = at} {us = us} a) d b h =
+    (at, UnclosedParenthesis, cc, (b, us, ws, append_assoc us (mark at Open ∷ []) ws, set, d))
 
 at_end : (len : ℕ) (us : List Lexeme) (state : State) (error : FilesetParseError) → Reaches len us state → after_end len state ≡ Err error → IsCause len us error
 at_end len us (before ps steps) error r h =
     let ends = underived len us error (ap (parsed_after len (Ok (before [] []))) (sym (append-nil us)) ∙ r.runs [] ∙ h) in
-    (len, ExpectedOperand, cc, (us, [], sym (append-nil us), begins us (before ps steps) r.holds, (refl, ends)))
+    (len, ExpectedOperand, cc, (us, [], sym (append-nil us), begins us (before ps steps) r.holds, (refl, ends), operand_follows us ps steps r.holds))
 at_end len us (after ps steps) error r h =
     let w = whole us ps steps r.holds in
     subst (λ l. IsCause len l error) (sym w.tokens)
-    (opened len w.ws (w.earlier ++ postfix w.set) error w.context (subst Begins w.tokens (begins us (after ps steps) r.holds)) (ap (λ u. whole_program u.0 u.2) (sym w.unwinds) ∙ h))
+    (opened len (w.earlier ++ postfix w.set) error w.context w.derives (subst Begins w.tokens (begins us (after ps steps) r.holds)) (ap (λ u. whole_program u.0 u.2) (sym w.unwinds) ∙ h))
 
-reached : (len : ℕ) (us : List Lexeme) (state new : State) (l : Lexeme) → Reaches len us state → after_token state l.at l.token ≡ Ok new → Reaches len (us ++ l ∷ []) new
+pub reached : (len : ℕ) (us : List Lexeme) (state new : State) (l : Lexeme) → Reaches len us state → after_token state l.at l.token ≡ Ok new → Reaches len (us ++ l ∷ []) new
 reached len us state new l r h = record {
   holds = stepped us state l.at l.token r.holds new h;
   runs = λ ms. ap (parsed_after len (Ok (before [] []))) (append_assoc us (l ∷ []) ms) ∙ r.runs (l ∷ ms) ∙ ap (λ found. parsed_after len found ms) h;
@@ -345,13 +373,13 @@ failed len all us (Ok state) (l ∷ ls) error split reaches causes h =
     let r = reaches state refl in
     failed len all (us ++ l ∷ []) (after_token state l.at l.token) ls error (split ∙ sym (append_assoc us (l ∷ []) ls)) (λ new e. reached len us state new l r e)
     (λ fault e.
-    let i = at_token state l.at l.token fault e in
-    (l.at, i.kind, i.is, i.place len all (us, l ∷ ls, split, begins us state r.holds, (refl, stuck len us state l fault r e)))) h
+    let i = at_token len us state l.at l.token fault r e in
+    (l.at, i.kind, i.is, subst (λ k. IsTokenOrderError len k l.at i.kind) (sym split) (i.order ls (begins us state r.holds) (stuck len us state l fault r e)))) h
 
 pub failed_cause : (len : ℕ) (ls : List Lexeme) (error : FilesetParseError) → parsed_after len (Ok (before [] [])) ls ≡ Err error → IsCause len ls error
 failed_cause len ls error h =
     failed len ls [] (Ok (before [] [])) ls error refl
     (λ state e.
     let is : before [] [] ≡ state = cc in
-    subst (Reaches len []) is (record { holds = first_factor (first_term start); runs = λ ms. refl }))
+    subst (Reaches len []) is (starts len))
     (λ fault e. cc) h

@@ -39,13 +39,13 @@ pub enum FilesetParseErrorKind {
     /// An operator, a closing parenthesis or the end instead of an operand.
     #[error("expected an operand")]
     ExpectedOperand,
-    /// An operand that follows another one.
+    /// An operand or an opening parenthesis after an operand.
     #[error("expected an operator")]
     ExpectedOperator,
     /// A closing parenthesis without an opening one.
     #[error("unopened parenthesis")]
     UnopenedParenthesis,
-    /// An opening parenthesis without a closing one.
+    /// An opening parenthesis without a closing one; at the innermost.
     #[error("unclosed parenthesis")]
     UnclosedParenthesis,
 }

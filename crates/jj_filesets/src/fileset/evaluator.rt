@@ -12,7 +12,8 @@ use jj_paths::repo_path::RepoPath;
 use std::alloc::{AllocError, Global};
 
 /// Returns the files of the list that are in the set, without the root, in the order of the list.
-/// A file takes one step for each pattern and operator, besides the matching of the patterns.
+/// A file takes one step for each pattern and operator, besides the matching of the patterns. All
+/// files share one operand stack.
 pub fn files_in<'a>(
     alloc: Global,
     files: &[RepoPath<'a>],
@@ -24,8 +25,9 @@ pub fn files_in<'a>(
         (map path_of files.now) (map path_of found.items)) }
 {
     let mut found = Vec::new(alloc);
+    let mut stack = Vec::new(alloc);
     for file in files {
-        if is_file_in(alloc, *file, expression)? {
+        if is_file_in(*file, expression, &mut stack)? {
             found.push(*file)?;
         }
     }
@@ -33,16 +35,16 @@ pub fn files_in<'a>(
 }
 
 fn is_file_in(
-    alloc: Global,
     file: RepoPath<'_>,
     expression: &FilesetExpression,
+    stack: &mut Vec<bool>,
 ) -> Result<bool, AllocError>
     ensures { IfOk result (λ yes. IsTrue yes ↔ IsFileIn expression.now (path_of file.entry)) }
 {
     if file.is_root() {
         return Ok(false);
     }
-    expression.contains(alloc, file)
+    expression.evaluate(file, stack)
 }
 
 impl FilesetExpression {
@@ -51,15 +53,20 @@ impl FilesetExpression {
         ensures { IfOk result (λ yes. IsTrue yes ↔ IsIn self.now (path_of path.entry)) }
     {
         let mut stack = Vec::new(alloc);
+        self.evaluate(path, &mut stack)
+    }
+
+    // Clears the stack and runs the program on it, so that many paths can share its memory.
+    fn evaluate(&self, path: RepoPath<'_>, stack: &mut Vec<bool>) -> Result<bool, AllocError>
+        ensures { IfOk result (λ yes. IsTrue yes ↔ IsIn self.now (path_of path.entry)) }
+    {
+        stack.clear();
         let mut rest = self.steps();
         while let Some((step, after)) = rest.split_first() {
-            perform(step, path, &mut stack)?;
+            perform(step, path, stack)?;
             rest = after;
         }
-        match stack.pop() {
-            Some(value) => Ok(value),
-            None => Ok(false),
-        }
+        Ok(stack.pop().unwrap_or(false))
     }
 }
 

@@ -51,8 +51,9 @@ impl Model for FilesetExpression {
 impl FilesetExpression {
     /// Parses an expression. The time is linear in the string, besides the compilation of globs.
     ///
-    /// Fails with the first error of a token; else with the first token that no expression has
-    /// there; and with `Memory` if memory runs out or a glob is too long.
+    /// Fails at the first token that cannot be read; else at the first token at which no expression
+    /// goes on, or at the innermost parenthesis that is not closed; and with `Memory` if memory
+    /// runs out or a glob is too long.
     pub fn parse(alloc: Global, text: &str) -> Result<FilesetExpression, FilesetParseError>
         ensures spelled { IfOk result (Spells text.now) }
         ensures unspelled { IfErr result (IsUnspelled text.now) }
