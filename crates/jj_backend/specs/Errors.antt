@@ -1,6 +1,8 @@
 -- Classes of backend errors.
--- Cited by contracts of public items: is_other, is_unsupported.
-use Rattle.std.specs.Prelude.{Bool, true, false}
+-- Cited by contracts of public items: IsOtherOf, is_other, is_unsupported.
+use Rattle.std.specs.Prelude.{◌≡◌, Bool, true, false}
+use Rattle.jj_files.specs.Causes.{Cause}
+use Rattle.jj_files.specs.declared.file_util.errors.SourceKind.{SourceKind}
 use Rattle.jj_backend.specs.declared.backend.errors.BackendError.{BackendError}
 use Rattle.jj_backend.specs.declared.backend.errors.BackendError.TheVariants.{ObjectNotFound, Other, Unsupported}
 
@@ -18,3 +20,7 @@ is_other _ = false
 abbrev pub is_unsupported : BackendError → Bool
 is_unsupported (Unsupported text) = true
 is_unsupported _ = false
+
+-- the error is Other, with a source of this kind
+abbrev pub IsOtherOf : SourceKind → BackendError → Type 0
+IsOtherOf kind e = (source : Cause) × (e ≡ Other source) × (source.kind ≡ kind)

@@ -1,16 +1,19 @@
--- The objects of a backend, as finite maps from ids, and the effects and errors of reads and
--- writes.
+-- The objects of a backend, as finite maps from ids, the values that no write changes, and the
+-- effects and errors of reads and writes.
 -- Cited by contracts of public items: AddsCommit, AddsCopy, AddsFile, AddsSymlink, AddsTree,
--- IsCommitError, IsRead, IsSigned, Object, Objects.
+-- FailsToSign, FixedValues, IsCommitError, IsConvertedError, IsRead, IsSigned, Object, Objects.
 use Rattle.std.specs.Prelude.{◌≡◌, ℕ, List, Option, Some, None, if◌then◌else◌, ◌⊎◌, Result, Ok, Err, MatchResult}
 use Rattle.std.specs.Bool.{MatchBool}
 use Rattle.std.specs.Str.{bytes_eq}
+use Rattle.jj_files.specs.declared.file_util.errors.SourceKind.TheVariants.{Data}
 use Rattle.jj_backend.specs.Contents.{commit_content}
-use Rattle.jj_backend.specs.Errors.{is_not_found}
+use Rattle.jj_backend.specs.Errors.{IsOtherOf, is_not_found}
 use Rattle.jj_backend.specs.Records.{CommitValue, CopyHistoryValue}
 use Rattle.jj_backend.specs.Trees.{Entries}
 use Rattle.jj_backend.specs.declared.backend.errors.BackendError.{BackendError}
+use Rattle.jj_backend.specs.declared.backend.errors.BackendError.TheVariants.{Other, Memory as NoMemory}
 use Rattle.jj_backend.specs.declared.signing.SignError.{SignError}
+use Rattle.jj_backend.specs.declared.signing.SignError.TheVariants.{InvalidSignatureFormat, Backend, Memory}
 
 -- the bytes that a signer signs: the content of the commit without its signature
 abbrev pub unsigned_content : CommitValue → List ℕ
@@ -44,6 +47,16 @@ pub record Objects : Type 0 where
   pub copies : ById CopyHistoryValue
   pub trees : ById Entries
   pub commits : ById CommitValue
+
+-- the values of a backend that no write changes
+pub record FixedValues : Type 0 where
+  pub name : List ℕ
+  pub commit_id_length : ℕ
+  pub change_id_length : ℕ
+  pub root_commit_id : List ℕ
+  pub root_change_id : List ℕ
+  pub empty_tree_id : List ℕ
+  pub concurrency : ℕ
 
 -- A read returns the value found for the id, or ObjectNotFound only if there is none, or an error
 -- that the backend may fail with.
@@ -89,17 +102,23 @@ IsSigned may_sign (Some signer) commit stored =
 
 -- ---- errors of writing a commit
 
--- there is a signer, and it may fail for the content of the commit
-abbrev pub SignerMayFail : {S : Type 0} → (S → List ℕ → Result (List ℕ) SignError → Type 0)
-    → Option S → CommitValue → Type 0
-SignerMayFail may_sign None contents = ⊥
-SignerMayFail may_sign (Some signer) contents =
-    (why : SignError) × may_sign signer (unsigned_content contents) (Err why)
+-- e is the backend's error for this error of the signer
+abbrev pub IsConvertedError : SignError → BackendError → Type 0
+IsConvertedError (Backend source) e = e ≡ Other source
+IsConvertedError InvalidSignatureFormat e = IsOtherOf Data e
+IsConvertedError Memory e = e ≡ NoMemory
 
--- storing the commit or its stored form may fail with e, or the signer may fail
+-- there is a signer, it may fail for the commit's content, and e is the backend's error for that
+abbrev pub FailsToSign : {S : Type 0} → (S → List ℕ → Result (List ℕ) SignError → Type 0) → Option S
+    → CommitValue → BackendError → Type 0
+FailsToSign may_sign None commit e = ⊥
+FailsToSign may_sign (Some signer) commit e =
+    (why : SignError) × may_sign signer (unsigned_content commit) (Err why) × IsConvertedError why e
+
+-- storing the commit or its stored form may fail with e, or signing it may
 abbrev pub IsCommitError : {S : Type 0} → (S → List ℕ → Result (List ℕ) SignError → Type 0)
     → (CommitValue → BackendError → Type 0) → Option S → CommitValue → BackendError → Type 0
 IsCommitError may_sign may_fail signer contents e =
     may_fail contents e
-    ⊎ SignerMayFail may_sign signer contents
+    ⊎ FailsToSign may_sign signer contents e
     ⊎ ((stored : CommitValue) × IsSigned may_sign signer contents stored × may_fail stored e)

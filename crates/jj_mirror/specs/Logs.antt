@@ -3,13 +3,12 @@
 -- MayFailToWrite.
 use Rattle.std.specs.Prelude.{◌≡◌, ◌⊎◌, ℕ, List, [], ◌∷◌, ◌++◌, Option, Result}
 use Rattle.jj_files.specs.declared.file_util.errors.SourceKind.TheVariants.{Other as OtherKind}
-use Rattle.jj_backend.specs.Objects.{Object, commit_object, IsSigned}
+use Rattle.jj_backend.specs.Errors.{IsOtherOf}
+use Rattle.jj_backend.specs.Objects.{FailsToSign, Object, commit_object, IsSigned}
 use Rattle.jj_backend.specs.Records.{CommitValue}
 use Rattle.jj_backend.specs.declared.backend.errors.BackendError.{BackendError}
 use Rattle.jj_backend.specs.declared.backend.errors.BackendError.TheVariants.{Memory}
 use Rattle.jj_backend.specs.declared.signing.SignError.{SignError}
-use Rattle.jj_trees.specs.MemoryErrors.{IsOtherOf}
-use Rattle.jj_trees.specs.Signing.{FailsToSign}
 use Rattle.jj_mirror.specs.Entries.{LogEntryValue, entry_of}
 
 module _ {L : Type 0} (contains : L → List LogEntryValue → Type 0) (old new : L) where

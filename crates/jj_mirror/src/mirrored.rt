@@ -2,12 +2,12 @@
 ghost use Rattle.std.specs.Prelude.{◌≡◌, ◌≢◌, ◌⊎◌, [], Some, IsSome, IfOk, IfErr, OnOk, OnErr};
 ghost use Rattle.std.specs.Prelude.{string_bytes};
 ghost use Rattle.std.specs.Option.{option_map};
+ghost use Rattle.jj_backend.specs.Errors.{IsOtherOf};
 ghost use Rattle.jj_backend.specs.Objects.{file_object, symlink_object, copy_object};
 ghost use Rattle.jj_backend.specs.Objects.{tree_object, commit_object};
 ghost use Rattle.jj_backend.specs.Objects.{IsRead, AddsFile, AddsSymlink, AddsCopy, AddsTree};
 ghost use Rattle.jj_backend.specs.Objects.{AddsCommit, IsSigned, IsCommitError};
-ghost use Rattle.jj_trees.specs.MemoryErrors.{IsOtherOf};
-ghost use Rattle.jj_trees.specs.Signing.{FailsToSign};
+ghost use Rattle.jj_trees.specs.Signing.{signer_after};
 ghost use Rattle.jj_mirror.specs.Entries.{entry_of, record_entry};
 ghost use Rattle.jj_mirror.specs.Logs.{Appends, Keeps, IsLoggedError, IsCommitFailure};
 
@@ -121,6 +121,7 @@ impl<B: Backend, L: ObjectLog> Mirrored<B, L> {
             (entry_of (commit_object commit))) }
         ensures unchanged { OnErr result
             (B.objects self.new.backend ≡ B.objects self.old.backend) }
+        ensures fixed { B.fixed self.new.backend ≡ B.fixed self.old.backend }
         ensures error { IfErr result (IsLoggedError L.contains self.old.log self.new.log L.may_fail
             (entry_of (commit_object commit))
             (B.may_fail_to_write self.old.backend (commit_object commit))) }
@@ -132,9 +133,12 @@ impl<B: Backend, L: ObjectLog> Mirrored<B, L> {
 }
 
 impl<B: Backend, L: ObjectLog> Backend for Mirrored<B, L> {
+    ghost use Rattle.std.specs.Prelude.{codes};
     ghost use Rattle.jj_mirror.specs.Logs.{MayFailToWrite};
 
     ghost objects = { λ store. B.objects store.backend };
+
+    ghost fixed = { λ store. record (B.fixed store.backend) { name = codes "mirrored" } };
 
     ghost may_fail = { λ store e. B.may_fail store.backend e };
 
@@ -142,6 +146,11 @@ impl<B: Backend, L: ObjectLog> Backend for Mirrored<B, L> {
 
     ghost may_fail_to_write = { λ store. MayFailToWrite (L.may_fail store.log)
         (B.may_fail_to_write store.backend) };
+
+    ghost may_relate = { λ store id r. B.may_relate store.backend id r };
+
+    ghost may_list_copies = { λ store paths root head r.
+        B.may_list_copies store.backend paths root head r };
 
     fn name(&self) -> &str {
         "mirrored"
@@ -187,6 +196,7 @@ impl<B: Backend, L: ObjectLog> Backend for Mirrored<B, L> {
             (entry_of (file_object contents.now))) }
         ensures unchanged { OnErr result
             (B.objects self.new.backend ≡ B.objects self.old.backend) }
+        ensures fixed { B.fixed self.new.backend ≡ B.fixed self.old.backend }
         ensures error { IfErr result (IsLoggedError L.contains self.old.log self.new.log L.may_fail
             (entry_of (file_object contents.now))
             (B.may_fail_to_write self.old.backend (file_object contents.now))) }
@@ -216,6 +226,7 @@ impl<B: Backend, L: ObjectLog> Backend for Mirrored<B, L> {
             (entry_of (symlink_object target.now))) }
         ensures unchanged { OnErr result
             (B.objects self.new.backend ≡ B.objects self.old.backend) }
+        ensures fixed { B.fixed self.new.backend ≡ B.fixed self.old.backend }
         ensures error { IfErr result (IsLoggedError L.contains self.old.log self.new.log L.may_fail
             (entry_of (symlink_object target.now))
             (B.may_fail_to_write self.old.backend (symlink_object target.now))) }
@@ -235,6 +246,7 @@ impl<B: Backend, L: ObjectLog> Backend for Mirrored<B, L> {
             (entry_of (copy_object copy.now))) }
         ensures unchanged { OnErr result
             (B.objects self.new.backend ≡ B.objects self.old.backend) }
+        ensures fixed { B.fixed self.new.backend ≡ B.fixed self.old.backend }
         ensures error { IfErr result (IsLoggedError L.contains self.old.log self.new.log L.may_fail
             (entry_of (copy_object copy.now))
             (B.may_fail_to_write self.old.backend (copy_object copy.now))) }
@@ -267,6 +279,7 @@ impl<B: Backend, L: ObjectLog> Backend for Mirrored<B, L> {
             (entry_of (tree_object contents.now))) }
         ensures unchanged { OnErr result
             (B.objects self.new.backend ≡ B.objects self.old.backend) }
+        ensures fixed { B.fixed self.new.backend ≡ B.fixed self.old.backend }
         ensures error { IfErr result (IsLoggedError L.contains self.old.log self.new.log L.may_fail
             (entry_of (tree_object contents.now))
             (B.may_fail_to_write self.old.backend (tree_object contents.now))) }
@@ -291,10 +304,13 @@ impl<B: Backend, L: ObjectLog> Backend for Mirrored<B, L> {
             (B.objects self.new.backend) stored.0 stored.1) }
         ensures signed { IfOk result (λ stored.
             IsSigned S.may_sign (option_map (λ f. f.now) sign_with.entry) contents stored.1) }
+        ensures not_called { contents.parents ≡ []
+            → signer_after (λ f. f.0.now) sign_with.exit ≡ option_map (λ f. f.now) sign_with.entry }
         ensures logged { IfOk result (λ stored. Appends L.contains self.old.log self.new.log
             (entry_of (commit_object stored.1))) }
         ensures unchanged { OnErr result
             (B.objects self.new.backend ≡ B.objects self.old.backend) }
+        ensures fixed { B.fixed self.new.backend ≡ B.fixed self.old.backend }
         ensures error { IfErr result (IsCommitFailure L.contains self.old.log self.new.log
             L.may_fail (λ commit. B.may_fail_to_write self.old.backend (commit_object commit))
             S.may_sign (option_map (λ f. f.now) sign_with.entry) contents) }

@@ -1,9 +1,9 @@
 //! Proved callers of a backend beside a log.
 ghost use Rattle.std.specs.Prelude.{◌≡◌, ◌⊎◌, ◌++◌, [], ◌∷◌, IfOk, IfErr, OnOk};
+ghost use Rattle.jj_backend.specs.Errors.{IsOtherOf};
 ghost use Rattle.jj_backend.specs.Objects.{commit_object};
 ghost use Rattle.jj_backend.specs.Contents.{commit_content};
 ghost use Rattle.jj_mirror.specs.Entries.{entry_of};
-ghost use Rattle.jj_trees.specs.MemoryErrors.{IsOtherOf};
 ghost use Rattle.jj_trees.specs.MemoryObjects.{object_id, IsTakenByOther};
 
 use jj_backend::backend::{Backend, BackendError, BackendResult, Commit, NoSigner};

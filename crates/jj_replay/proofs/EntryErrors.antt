@@ -2,6 +2,7 @@
 use Rattle.std.proofs.Common.{◌≡◌, ◌≢◌, ◌∙◌, ◌⊎◌, inl, inr, ℕ, List, [], Some, refl, sym, ap, subst}
 use Rattle.std.specs.Str.{IsUtf8}
 use Rattle.jj_backend.specs.Contents.{IsCopyHistory, copy_history_content, IsCommit, commit_content}
+use Rattle.jj_backend.specs.Errors.{IsOtherOf}
 use Rattle.jj_backend.specs.Objects.{Object, file_object, symlink_object, copy_object, tree_object, commit_object, AddsFile, AddsSymlink, AddsCopy, AddsTree, AddsCommit}
 use Rattle.jj_backend.specs.Records.{CopyHistoryValue, CommitValue}
 use Rattle.jj_backend.specs.TreeLaws.{IsTree, tree_content}
@@ -16,7 +17,6 @@ use Rattle.jj_files.specs.declared.file_util.errors.SourceKind.TheVariants.{Othe
 use Rattle.jj_backend.specs.Contents.{bytes_content}
 use Rattle.jj_backend.specs.declared.backend.errors.BackendError.{BackendError}
 use Rattle.jj_backend.specs.declared.backend.errors.BackendError.TheVariants.{Memory as MemoryCause}
-use Rattle.jj_trees.specs.MemoryErrors.{IsOtherOf}
 use Rattle.jj_trees.specs.MemoryObjects.{MemoryBackendValue, objects_of, by_id, object_id, digest_length, IsTakenByOther, IsStoreError, MayFailToWrite}
 use Rattle.jj_trees.specs.Signing.{IsCommitIdTaken}
 use Rattle.jj_replay.specs.Replays.{IsObject, HasBytesOf, IsEntryError, IsDigestTaken}

@@ -5,10 +5,10 @@ use Rattle.std.specs.Prelude.{◌≡◌, ◌≢◌, ◌⊎◌, ⊤, ℕ, List, t
 use Rattle.std.specs.Str.{IsUtf8}
 use Rattle.jj_files.specs.declared.file_util.errors.SourceKind.TheVariants.{Other as OtherKind}
 use Rattle.jj_backend.specs.Contents.{IsCopyHistory, IsCommit}
+use Rattle.jj_backend.specs.Errors.{IsOtherOf}
 use Rattle.jj_backend.specs.Objects.{Object, file_object, symlink_object, copy_object, tree_object, commit_object, Objects}
 use Rattle.jj_backend.specs.TreeLaws.{IsTree}
 use Rattle.jj_backend.specs.declared.backend.errors.BackendError.{BackendError}
-use Rattle.jj_trees.specs.MemoryErrors.{IsOtherOf}
 use Rattle.jj_trees.specs.MemoryObjects.{MemoryBackendValue, objects_of, digest_length, new_backend}
 use Rattle.jj_mirror.specs.Entries.{LogEntryValue, entry_of, digest_of}
 use Rattle.jj_mirror.specs.Logs.{IsParentless}

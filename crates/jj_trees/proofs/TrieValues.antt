@@ -12,6 +12,7 @@ use Rattle.jj_paths.specs.Paths.{Name, Path, IsBelow}
 use Rattle.jj_paths.specs.Orders.{path_eq, path_eq-Decides}
 use Rattle.jj_paths.specs.Tree.{tree_of, none, branch, has_branches, child, get, value_at, SetsValue}
 use Rattle.jj_paths.proofs.ListedNodes.{nothing_there}
+use Rattle.jj_backend.specs.Errors.{IsOtherOf}
 use Rattle.jj_backend.specs.Objects.{ById, Object, Objects}
 use Rattle.jj_backend.specs.Trees.{Entries}
 use Rattle.jj_backend.specs.declared.backend.tree_value.TreeValue.{TreeValue}
@@ -20,7 +21,6 @@ use Rattle.jj_backend.specs.declared.backend.errors.BackendError.{BackendError}
 use Rattle.jj_backend.specs.declared.backend.errors.BackendError.TheVariants.{Memory, Unsupported}
 use Rattle.jj_files.specs.declared.file_util.errors.SourceKind.TheVariants.{Data}
 use Rattle.std.specs.declared.string.String.{String}
-use Rattle.jj_trees.specs.MemoryErrors.{IsOtherOf}
 use Rattle.jj_trees.specs.WrittenTrees.{PathValues, IsPrefixFree, IsTreeOf, AddsTrees, IsTreeWriteError, IsWriteBackError}
 use Rattle.jj_trees.specs.PathTries.{Node, Nodes, is_value, IsTrieOf, IsStored, IsFull, IsNodeError}
 use Rattle.jj_trees.proofs.StoredTries.{has, only, IsReached, IsNodeValue, directory_entry, adds_more}

@@ -1,20 +1,20 @@
 -- The model of an in-memory backend: its objects, their ids, and its initial state.
 -- Cited by contracts of public items: IsStoreError, MayFailToWrite, MemoryBackendValue,
--- change_id_length, digest_length, new_backend, object_id, objects_of.
-use Rattle.std.specs.Prelude.{◌≡◌, ◌≢◌, ◌⊎◌, ℕ, List, [], ◌∷◌, take, replicate, Some}
+-- change_id_length, digest_length, fixed_of, new_backend, object_id, objects_of.
+use Rattle.std.specs.Prelude.{◌≡◌, ◌≢◌, ◌⊎◌, ℕ, List, [], ◌∷◌, take, replicate, codes, Some}
 use Rattle.std.specs.Map.{lookup}
 use Rattle.std.specs.Str.{bytes_eq}
 use Rattle.jj_content.specs.Blake2b.{blake2b}
 use Rattle.jj_content.specs.Content.{string_content}
 use Rattle.jj_files.specs.declared.file_util.errors.SourceKind.TheVariants.{Other as OtherKind}
 use Rattle.jj_backend.specs.Contents.{bytes_content, copy_history_content, commit_content}
-use Rattle.jj_backend.specs.Objects.{ById, Object, file_object, symlink_object, copy_object, tree_object, commit_object, Objects}
+use Rattle.jj_backend.specs.Errors.{IsOtherOf}
+use Rattle.jj_backend.specs.Objects.{ById, FixedValues, Object, file_object, symlink_object, copy_object, tree_object, commit_object, Objects}
 use Rattle.jj_backend.specs.Records.{CopyHistoryValue, CommitValue, root_commit}
 use Rattle.jj_backend.specs.TreeLaws.{tree_content}
 use Rattle.jj_backend.specs.Trees.{Entries}
 use Rattle.jj_backend.specs.declared.backend.errors.BackendError.{BackendError}
 use Rattle.jj_backend.specs.declared.backend.errors.BackendError.TheVariants.{Memory}
-use Rattle.jj_trees.specs.MemoryErrors.{IsOtherOf}
 
 -- objects with their ids, as an association list
 abbrev pub ObjectEntries : Type 0 → Type 0
@@ -61,6 +61,18 @@ digest_length = 64
 
 abbrev pub change_id_length : ℕ
 change_id_length = 16
+
+-- the values of an in-memory backend that no write changes
+abbrev pub fixed_of : MemoryBackendValue → FixedValues
+fixed_of backend = record {
+  name = codes "memory";
+  commit_id_length = backend.id_length;
+  change_id_length = change_id_length;
+  root_commit_id = backend.root_commit_id;
+  root_change_id = backend.root_change_id;
+  empty_tree_id = backend.empty_tree_id;
+  concurrency = 1;
+}
 
 -- the id of an object with this content: a prefix of the digest
 abbrev pub object_id : ℕ → List ℕ → List ℕ

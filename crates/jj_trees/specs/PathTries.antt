@@ -7,13 +7,13 @@ use Rattle.std.specs.declared.string.String.{String}
 use Rattle.jj_files.specs.declared.file_util.errors.SourceKind.TheVariants.{Data}
 use Rattle.jj_paths.specs.Paths.{Name, Path, IsBelow}
 use Rattle.jj_paths.specs.Tree.{Tree as Trie, Branches, none, branch, value_at}
+use Rattle.jj_backend.specs.Errors.{IsOtherOf}
 use Rattle.jj_backend.specs.Objects.{ById, Object, Objects}
 use Rattle.jj_backend.specs.Trees.{Entries}
 use Rattle.jj_backend.specs.declared.backend.tree_value.TreeValue.{TreeValue}
 use Rattle.jj_backend.specs.declared.backend.tree_value.TreeValue.TheVariants.{Tree}
 use Rattle.jj_backend.specs.declared.backend.errors.BackendError.{BackendError}
 use Rattle.jj_backend.specs.declared.backend.errors.BackendError.TheVariants.{Memory, Unsupported}
-use Rattle.jj_trees.specs.MemoryErrors.{IsOtherOf}
 use Rattle.jj_trees.specs.WrittenTrees.{PathValues, IsTreeWriteError}
 
 -- a trie of values: nodes without a value are directories

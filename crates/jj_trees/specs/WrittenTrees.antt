@@ -6,6 +6,7 @@ use Rattle.std.specs.Global.{Global}
 use Rattle.std.specs.declared.string.String.{String}
 use Rattle.jj_files.specs.declared.file_util.errors.SourceKind.TheVariants.{Data}
 use Rattle.jj_paths.specs.Paths.{Name, Path, IsBelow}
+use Rattle.jj_backend.specs.Errors.{IsOtherOf}
 use Rattle.jj_backend.specs.Objects.{ById, Object, Objects, tree_object}
 use Rattle.jj_backend.specs.Trees.{Entries}
 use Rattle.jj_backend.specs.MergedTreeValues.{Values}
@@ -13,7 +14,6 @@ use Rattle.jj_backend.specs.declared.backend.tree_value.TreeValue.{TreeValue}
 use Rattle.jj_backend.specs.declared.backend.tree_value.TreeValue.TheVariants.{Tree}
 use Rattle.jj_backend.specs.declared.backend.errors.BackendError.{BackendError}
 use Rattle.jj_backend.specs.declared.backend.errors.BackendError.TheVariants.{Memory, Unsupported}
-use Rattle.jj_trees.specs.MemoryErrors.{IsOtherOf}
 use Rattle.jj_trees.specs.TreeMerges.{child}
 
 -- paths with their values

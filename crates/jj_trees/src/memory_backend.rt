@@ -4,15 +4,15 @@ ghost use Rattle.std.specs.Prelude.{IfOk, IfErr, OnOk, OnErr, IsErrAnd, string_b
 ghost use Rattle.std.specs.Option.{option_map};
 ghost use Rattle.jj_content.specs.Content.{string_content};
 ghost use Rattle.jj_backend.specs.Contents.{bytes_content, copy_history_content, commit_content};
-ghost use Rattle.jj_backend.specs.Errors.{is_unsupported};
+ghost use Rattle.jj_backend.specs.Errors.{IsOtherOf, is_unsupported};
 ghost use Rattle.jj_backend.specs.Objects.{AddsFile, AddsSymlink, AddsCopy, AddsTree};
-ghost use Rattle.jj_backend.specs.Objects.{AddsCommit, IsRead, IsSigned};
+ghost use Rattle.jj_backend.specs.Objects.{AddsCommit, FailsToSign, IsRead, IsSigned};
 ghost use Rattle.jj_backend.specs.Records.{root_commit};
 ghost use Rattle.jj_backend.specs.TreeLaws.{tree_content};
 ghost use Rattle.jj_trees.specs.MemoryObjects.{new_backend, change_id_length, digest_length};
 ghost use Rattle.jj_trees.specs.MemoryObjects.{object_id, objects_of, IsStoreError};
-ghost use Rattle.jj_trees.specs.MemoryErrors.{IsOtherOf, NamesObject};
-ghost use Rattle.jj_trees.specs.Signing.{FailsToSign, IsCommitIdTaken, signer_after};
+ghost use Rattle.jj_trees.specs.MemoryErrors.{NamesObject};
+ghost use Rattle.jj_trees.specs.Signing.{IsCommitIdTaken, signer_after};
 
 mod contents;
 mod initial_objects;
@@ -137,17 +137,25 @@ impl MemoryBackend {
 }
 
 impl Backend for MemoryBackend {
-    ghost use Rattle.std.specs.Prelude.{◌≡◌, ⊤};
+    ghost use Rattle.std.specs.Prelude.{◌≡◌, ◌⊎◌, ⊤, true, IsErrAnd};
+    ghost use Rattle.jj_backend.specs.Errors.{is_unsupported};
     ghost use Rattle.jj_backend.specs.declared.backend.errors.BackendError.TheVariants.{Memory};
-    ghost use Rattle.jj_trees.specs.MemoryObjects.{objects_of, MayFailToWrite};
+    ghost use Rattle.jj_trees.specs.MemoryObjects.{fixed_of, objects_of, MayFailToWrite};
 
     ghost objects = { objects_of };
+
+    ghost fixed = { fixed_of };
 
     ghost may_fail = { λ _ e. e ≡ Memory };
 
     ghost may_read_tree = { λ _ path id r. ⊤ };
 
     ghost may_fail_to_write = { MayFailToWrite };
+
+    ghost may_relate = { λ _ _ r. IsErrAnd r (λ e. (e ≡ Memory) ⊎ (is_unsupported e ≡ true)) };
+
+    ghost may_list_copies = { λ _ _ _ _ r. IsErrAnd r
+        (λ e. (e ≡ Memory) ⊎ (is_unsupported e ≡ true)) };
 
     fn name(&self) -> &str
         ensures { result.now ≡ codes "memory" }

@@ -31,6 +31,9 @@ use std::cmp::Ordering;
 use std::num::NonZeroUsize;
 pub use writing::write_back;
 
+// The number of levels of directories that `merge_trees` merges and `write_back` writes.
+const MAX_LEVELS: usize = 1024;
+
 // The outcome of the values at one path.
 enum Step<'a> {
     Resolved(&'a TreeValue),
@@ -199,21 +202,18 @@ fn merge_directory<B: Backend>(
     for row in rows {
         let path = dir.join(alloc, row.name.as_component())?;
         let subdirectory = merge_path(alloc, path, row.values, labels, same_change, merged)?;
-        match subdirectory {
-            None => {}
-            Some(directory) => {
-                let dir = directory.path.as_path();
-                merge_directory(
-                    alloc,
-                    backend,
-                    dir,
-                    &directory.values,
-                    labels,
-                    same_change,
-                    levels - 1,
-                    merged,
-                )?;
-            }
+        if let Some(directory) = subdirectory {
+            let dir = directory.path.as_path();
+            merge_directory(
+                alloc,
+                backend,
+                dir,
+                &directory.values,
+                labels,
+                same_change,
+                levels - 1,
+                merged,
+            )?;
         }
     }
     Ok(())
@@ -283,9 +283,6 @@ pub fn merge_trees_within<B: Backend>(
     Ok(merged)
 }
 
-// The number of levels of `merge_trees`.
-const MOST_LEVELS: usize = 1024;
-
 /// Merges trees recursively, at most 1,024 levels deep; otherwise as [`merge_trees_within`].
 pub fn merge_trees<B: Backend>(
     alloc: Global,
@@ -314,7 +311,7 @@ pub fn merge_trees<B: Backend>(
         ⟦<Option<TreeValue> as PartialEq>⟧.eq same_change (B.may_read_tree backend.now)
         (B.may_fail backend.now) (root_values trees.now) 1024) }
 {
-    let Some(levels) = NonZeroUsize::new(MOST_LEVELS) else {
+    let Some(levels) = NonZeroUsize::new(MAX_LEVELS) else {
         unreachable!();
     };
     merge_trees_within(alloc, backend, trees, labels, same_change, levels)

@@ -35,17 +35,23 @@ impl PathBackend {
 }
 
 impl Backend for PathBackend {
-    ghost use Rattle.std.specs.Prelude.{◌≡◌, ⊤};
+    ghost use Rattle.std.specs.Prelude.{◌≡◌, ⊤, codes, IsErrAnd};
     ghost use Rattle.jj_backend.specs.declared.backend.errors.BackendError.TheVariants.{Memory};
-    ghost use Rattle.jj_trees.specs.MemoryObjects.{objects_of};
+    ghost use Rattle.jj_trees.specs.MemoryObjects.{fixed_of, objects_of};
 
     ghost objects = { λ backend. objects_of backend.inner };
+
+    ghost fixed = { λ backend. record (fixed_of backend.inner) { name = codes "paths" } };
 
     ghost may_fail = { λ _ e. e ≡ Memory };
 
     ghost may_read_tree = { λ _ path id r. ⊤ };
 
     ghost may_fail_to_write = { λ _ _ e. e ≡ Memory };
+
+    ghost may_relate = { λ _ _ r. IsErrAnd r (λ e. e ≡ Memory) };
+
+    ghost may_list_copies = { λ _ _ _ _ r. IsErrAnd r (λ e. e ≡ Memory) };
 
     fn name(&self) -> &str {
         "paths"

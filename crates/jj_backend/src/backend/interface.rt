@@ -47,14 +47,19 @@ impl SigningFn for NoSigner {
 /// Calls pass the path of an object in the repository, which a backend may use or ignore. A write
 /// that fails changes no object.
 pub trait Backend {
-    ghost use Rattle.std.specs.Prelude.{ℕ, List, Result};
+    ghost use Rattle.std.specs.Prelude.{ℕ, List, Option, Result};
     ghost use Rattle.jj_paths.specs.Paths.{Path};
-    ghost use Rattle.jj_backend.specs.Objects.{Object, Objects};
+    ghost use Rattle.jj_backend.specs.Objects.{FixedValues, Object, Objects};
     ghost use Rattle.jj_backend.specs.Trees.{Entries};
+    ghost use Rattle.jj_backend.specs.declared.backend.copies.CopyRecord.{CopyRecord};
+    ghost use Rattle.jj_backend.specs.declared.backend.copies.RelatedCopy.{RelatedCopy};
     ghost use Rattle.jj_backend.specs.declared.backend.errors.BackendError.{BackendError};
 
     /// The stored objects, by id.
     ghost objects: { Self → Objects };
+
+    /// The values that no write changes.
+    ghost fixed: { Self → FixedValues };
 
     /// The errors that a read may return besides `ObjectNotFound`.
     ghost may_fail: { Self → BackendError → Type 0 };
@@ -65,28 +70,42 @@ pub trait Backend {
     /// Relates an object to the errors that writing it may return.
     ghost may_fail_to_write: { Self → Object → BackendError → Type 0 };
 
+    /// Relates a copy id to the results that `get_related_copies` may return for it.
+    ghost may_relate: { Self → List ℕ → Result (List RelatedCopy) BackendError → Type 0 };
+
+    /// Relates paths, a root and a head to the results that `get_copy_records` may return for them.
+    ghost may_list_copies: { Self → Option (List Path) → List ℕ → List ℕ
+        → Result (List CopyRecord) BackendError → Type 0 };
+
     /// Returns the name that identifies the type of the backend.
-    fn name(&self) -> &str;
+    fn name(&self) -> &str
+        ensures { result.now ≡ (fixed self.now).name };
 
     /// Returns the length of commit ids in bytes.
-    fn commit_id_length(&self) -> usize;
+    fn commit_id_length(&self) -> usize
+        ensures { result ≡ (fixed self.now).commit_id_length };
 
     /// Returns the length of change ids in bytes.
-    fn change_id_length(&self) -> usize;
+    fn change_id_length(&self) -> usize
+        ensures { result ≡ (fixed self.now).change_id_length };
 
     /// Returns the id of the root commit, the ancestor of all other commits.
     fn root_commit_id(&self) -> &CommitId
-        ensures { IsSome ((objects self.now).commits result.now) };
+        ensures id { result.now ≡ (fixed self.now).root_commit_id }
+        ensures commit { IsSome ((objects self.now).commits result.now) };
 
     /// Returns the change id of the root commit.
-    fn root_change_id(&self) -> &ChangeId;
+    fn root_change_id(&self) -> &ChangeId
+        ensures { result.now ≡ (fixed self.now).root_change_id };
 
     /// Returns the id of the tree without entries.
     fn empty_tree_id(&self) -> &TreeId
-        ensures { (objects self.now).trees result.now ≡ Some [] };
+        ensures id { result.now ≡ (fixed self.now).empty_tree_id }
+        ensures tree { (objects self.now).trees result.now ≡ Some [] };
 
     /// Returns the number of concurrent calls that suits the backend best.
-    fn concurrency(&self) -> usize;
+    fn concurrency(&self) -> usize
+        ensures { result ≡ (fixed self.now).concurrency };
 
     /// Reads the content of a file. `ObjectNotFound` means that no file has the id.
     fn read_file(&self, alloc: Global, path: RepoPath<'_>, id: &FileId) -> BackendResult<Vec<u8>>
@@ -103,6 +122,7 @@ pub trait Backend {
         ensures ok { IfOk result (λ id. AddsFile (objects self.old)
             (objects self.new) id contents.now) }
         ensures unchanged { OnErr result (objects self.new ≡ objects self.old) }
+        ensures fixed { fixed self.new ≡ fixed self.old }
         ensures error { IfErr result (may_fail_to_write self.old (file_object contents.now)) };
 
     /// Reads the target of a symbolic link. `ObjectNotFound` means that no link has the id.
@@ -125,6 +145,7 @@ pub trait Backend {
         ensures ok { IfOk result (λ id. AddsSymlink (objects self.old)
             (objects self.new) id target.now) }
         ensures unchanged { OnErr result (objects self.new ≡ objects self.old) }
+        ensures fixed { fixed self.new ≡ fixed self.old }
         ensures error { IfErr result (may_fail_to_write self.old (symlink_object target.now)) };
 
     /// Reads a copy history. `ObjectNotFound` means that no copy history has the id.
@@ -136,14 +157,13 @@ pub trait Backend {
         ensures ok { IfOk result (λ id. AddsCopy (objects self.old)
             (objects self.new) id copy.now) }
         ensures unchanged { OnErr result (objects self.new ≡ objects self.old) }
+        ensures fixed { fixed self.new ≡ fixed self.old }
         ensures error { IfErr result (may_fail_to_write self.old (copy_object copy.now)) };
 
     /// Returns the copy histories that are related to the one with this id.
-    fn get_related_copies(
-        &self,
-        alloc: Global,
-        copy_id: &CopyId,
-    ) -> BackendResult<Vec<RelatedCopy>>;
+    fn get_related_copies(&self, alloc: Global, copy_id: &CopyId) -> BackendResult<Vec<RelatedCopy>>
+        ensures { may_relate self.now copy_id.now
+            (result_map_both (λ v. v.items) (λ e. e) result) };
 
     /// Reads the tree of the directory at `path`. `ObjectNotFound` means that no tree has the id.
     fn read_tree(&self, alloc: Global, path: RepoPath<'_>, id: &TreeId) -> BackendResult<Tree>
@@ -161,6 +181,7 @@ pub trait Backend {
         ensures ok { IfOk result (λ id. AddsTree (objects self.old)
             (objects self.new) id contents.now) }
         ensures unchanged { OnErr result (objects self.new ≡ objects self.old) }
+        ensures fixed { fixed self.new ≡ fixed self.old }
         ensures error { IfErr result (may_fail_to_write self.old (tree_object contents.now)) };
 
     /// Reads a commit. `ObjectNotFound` means that no commit has the id.
@@ -180,6 +201,7 @@ pub trait Backend {
         ensures signed { IfOk result (λ stored.
             IsSigned S.may_sign (option_map (λ f. f.now) sign_with.entry) contents stored.1) }
         ensures unchanged { OnErr result (objects self.new ≡ objects self.old) }
+        ensures fixed { fixed self.new ≡ fixed self.old }
         ensures error { IfErr result (IsCommitError S.may_sign
             (λ commit. may_fail_to_write self.old (commit_object commit))
             (option_map (λ f. f.now) sign_with.entry) contents) };
@@ -191,5 +213,7 @@ pub trait Backend {
         paths: Option<&[RepoPathBuf]>,
         root: &CommitId,
         head: &CommitId,
-    ) -> BackendResult<Vec<CopyRecord>>;
+    ) -> BackendResult<Vec<CopyRecord>>
+        ensures { may_list_copies self.now (option_map (λ p. p.now) paths.entry) root.now head.now
+            (result_map_both (λ v. v.items) (λ e. e) result) };
 }

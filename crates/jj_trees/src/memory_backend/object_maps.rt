@@ -2,10 +2,10 @@
 ghost use Rattle.std.specs.Prelude.{◌≡◌, ◌≤◌, ◌⊎◌, [], ◌∷◌, true, IfOk, IfErr, OnOk, OnErr, string_bytes};
 ghost use Rattle.std.specs.Bool.{Decides};
 ghost use Rattle.jj_content.specs.Hex.{hex};
-ghost use Rattle.jj_backend.specs.Errors.{is_not_found};
+ghost use Rattle.jj_backend.specs.Errors.{IsOtherOf, is_not_found};
 ghost use Rattle.jj_backend.specs.Objects.{IsRead, IsFree, put};
 ghost use Rattle.jj_trees.specs.MemoryObjects.{by_id, digest_length, object_id, IsStoreError};
-ghost use Rattle.jj_trees.specs.MemoryErrors.{IsOtherOf, NamesObject};
+ghost use Rattle.jj_trees.specs.MemoryErrors.{NamesObject};
 
 use jj_backend::backend::{BackendError, BackendResult};
 use jj_content::content_hash::{ContentHash, blake2b_hash};

@@ -1,8 +1,7 @@
 //! Signatures of commits that are written.
 ghost use Rattle.std.specs.Prelude.{◌≡◌, ◌≢◌, ◌⊎◌, [], true, Some, IfOk, IfErr, OnOk};
-ghost use Rattle.jj_backend.specs.Objects.{IsSigned};
-ghost use Rattle.jj_trees.specs.MemoryErrors.{IsOtherOf};
-ghost use Rattle.jj_trees.specs.Signing.{IsConvertedError, FailsToSign};
+ghost use Rattle.jj_backend.specs.Errors.{IsOtherOf};
+ghost use Rattle.jj_backend.specs.Objects.{FailsToSign, IsConvertedError, IsSigned};
 
 use super::object_maps::other_error;
 use jj_backend::backend::{BackendError, BackendResult, Commit, SecureSig, SigningFn};

@@ -30,7 +30,7 @@ fn first_name<'a>(remaining: TreeEntriesNonRecursiveIterator<'a>) -> Option<Repo
     }
 }
 
-// Returns the min_name of two names; an absent name is greater than all others.
+// Returns the lesser of two names; an absent name is greater than all others.
 fn min_name<'a>(
     least: Option<RepoPathComponent<'a>>,
     other: Option<RepoPathComponent<'a>>,

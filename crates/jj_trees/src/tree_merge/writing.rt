@@ -5,22 +5,19 @@ ghost use Rattle.std.specs.Prelude.{IfOk, IfErr, IfSome, OnOk};
 ghost use Rattle.jj_paths.specs.Names.{path_of};
 ghost use Rattle.jj_paths.specs.Paths.{Path};
 ghost use Rattle.jj_paths.specs.Tree.{value_at, none};
+ghost use Rattle.jj_backend.specs.Errors.{IsOtherOf};
 ghost use Rattle.jj_backend.specs.declared.backend.tree_value.TreeValue.{TreeValue};
-ghost use Rattle.jj_trees.specs.MemoryErrors.{IsOtherOf};
 ghost use Rattle.jj_trees.specs.WrittenTrees.{AddsTrees, IsPrefixFree, IsTreeOf, PathValues};
 ghost use Rattle.jj_trees.specs.WrittenTrees.{IsWriteBackError, chosen_values, values_to_write};
 ghost use Rattle.jj_trees.specs.PathTries.{IsFull, IsNodeError, IsStored, IsTrieOf, is_value};
 
-use super::{TreeMerge, too_deep_error};
+use super::{MAX_LEVELS, TreeMerge, too_deep_error};
 use jj_backend::backend::{Backend, BackendError, BackendResult, Tree, TreeId, TreeValue};
 use jj_files::file_util::{SourceError, SourceKind};
 use jj_merges::conflict_labels::ConflictLabels;
 use jj_merges::merge::Merge;
 use jj_paths::repo_path::{RepoPath, RepoPathBuf, RepoPathComponentBuf, RepoPathTree};
 use std::alloc::{AllocError, Global};
-
-// The number of levels of directories that `write_back` writes.
-const MOST_LEVELS: usize = 1024;
 
 fn path_error(alloc: Global) -> BackendError
     ensures { (result ≡ BackendError.Memory) ⊎ IsOtherOf SourceKind.Data result }
@@ -94,9 +91,8 @@ fn insert_chosen(
         → IsPrefixFree (values ++ chosen_values conflicts.now chosen.now) → ⊥))) }
 {
     for i in 0..chosen.len() {
-        match &chosen[i] {
-            Some(value) => insert_value(alloc, trie, conflicts[i].0.as_path(), value)?,
-            None => {}
+        if let Some(value) = &chosen[i] {
+            insert_value(alloc, trie, conflicts[i].0.as_path(), value)?;
         }
     }
     Ok(())
@@ -208,5 +204,5 @@ pub fn write_back<B: Backend>(
         (values_to_write merge.now.resolved.items merge.now.conflicts.items chosen.now)) }
 {
     let trie = values_trie(alloc, merge, chosen)?;
-    write_directory(alloc, backend, RepoPath::root(), &trie, MOST_LEVELS)
+    write_directory(alloc, backend, RepoPath::root(), &trie, MAX_LEVELS)
 }

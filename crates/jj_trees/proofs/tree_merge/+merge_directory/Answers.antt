@@ -13,7 +13,7 @@ use Rattle.jj_trees.proofs.Merging.{same_values, passed_none, error_here, error_
 use Rattle.jj_trees.proofs.Passing.{rows_start, rows_next, next_row, row_length, same_sides}
 use Rattle.jj_trees.proofs.Rounds.{rows_passed, row_here, row_entered, row_error, rows_ended, no_row, all_rows}
 use Rattle.jj_trees.proofs.tree_merge.+merge_directory.Goals as goal
-use Rattle.jj_trees.proofs.tree_merge.+merge_directory.Goals.{in-None-subdirectory, in-Some-subdirectory+in_ok-merge_directory-in-Some-subdirectory}
+use Rattle.jj_trees.proofs.tree_merge.+merge_directory.Goals.{in_default, in-Some-subdirectory+in_ok-merge_directory}
 
 abbrev pub parts : Row → Name × Values
 parts row = (row.name, row.values.items)
@@ -66,11 +66,11 @@ returns-in_err-trees-clause-error g t c =
     (FailsAt (g.B.Backend.objects c.args.backend.now).trees (g.B.Backend.may_read_tree c.args.backend.now) (g.B.Backend.may_fail c.args.backend.now))
     c.args.levels c.args.values.now (path_of c.args.dir) c.args.levels _ c.in_err-trees.ensures.error)
 
-pub returns-in_err-merge_directory-in-Some-subdirectory-clause-error : goal.returns-in_err-merge_directory-in-Some-subdirectory-clause-error
-returns-in_err-merge_directory-in-Some-subdirectory-clause-error g t c =
+pub returns-in_err-merge_directory-clause-error : goal.returns-in_err-merge_directory-clause-error
+returns-in_err-merge_directory-clause-error g t c =
     let next = next_row c.loop-row.row-iterator c.next.result c.next.new.self c.in-Some.row c.in-Some.is c.next.ensures.steps in
     let subdirectory = rw c.in-Some-subdirectory.is at c.in_ok-subdirectory.ensures.subdirectory in
-    let p = err_from_is_err_and c.from_residual-in_err-merge_directory-in-Some-subdirectory.result c.from_residual-in_err-merge_directory-in-Some-subdirectory.ensures.1 in
+    let p = err_from_is_err_and c.from_residual-in_err-merge_directory.result c.from_residual-in_err-merge_directory.ensures.1 in
     let at : c.in_ok-path.path ≡ path_of c.args.dir ++ c.in-Some.row.name ∷ [] = c.in_ok-path.ensures ∙ ap (λ n. path_of c.args.dir ++ n ∷ []) c.as_component.ensures in
     rw (p.1, p.2)
     (row_error (option_eq tree_values.eq-value.it) same_values (g.B.Backend.objects c.args.backend.now).trees c.args.same_change c.args.labels.now (IsReadAt (g.B.Backend.objects c.args.backend.now).trees (g.B.Backend.may_read_tree c.args.backend.now))
@@ -79,7 +79,7 @@ returns-in_err-merge_directory-in-Some-subdirectory-clause-error g t c =
     (rows_next parts _ c.loop-row.yielded _ _ next c.loop-row.invariant.rows) c.args.levels _
     c.deref-in-Some-subdirectory.result.now (path_of c.as_path-dir.result) (omega arith) (c.deref-in-Some-subdirectory.ensures.value ∙ subdirectory.1)
     (c.as_path-dir.ensures ∙ subdirectory.0 ∙ at) subdirectory.2
-    c.in_err-merge_directory-in-Some-subdirectory.ensures.error)
+    c.in_err-merge_directory.ensures.error)
 
 pub loop-row-preserved : goal.loop-row-preserved
 loop-row-preserved g t c =
@@ -91,11 +91,11 @@ loop-row-preserved g t c =
       ends = tt;
       rows = rows_passed parts _ c.loop-row.yielded c.in-Some.row (into_iter_items c.next.new.self) rows;
       passed = elim c.match-subdirectory.branch [
-        | in-None-subdirectory w ↦
+        | in_default w ↦
             rw w.merged-is
             (row_here (option_eq tree_values.eq-value.it) same_values _ _ _ _ _ _ _ _ parts c.loop-row.yielded c.in-Some.row (into_iter_items c.next.new.self) rows
-            _ _ _ _ _ _ c.loop-row.invariant.passed c.in_ok-path.path at (c.in_ok-subdirectory.ensures.appended (ap is_some w.in-None-subdirectory.is)))
-        | in-Some-subdirectory+in_ok-merge_directory-in-Some-subdirectory w ↦
+            _ _ _ _ _ _ c.loop-row.invariant.passed c.in_ok-path.path at (c.in_ok-subdirectory.ensures.appended (ap is_some w.in_default.is)))
+        | in-Some-subdirectory+in_ok-merge_directory w ↦
             let subdirectory = rw w.in-Some-subdirectory.is at c.in_ok-subdirectory.ensures.subdirectory in
             rw w.merged-is
             (row_entered (option_eq tree_values.eq-value.it) same_values (g.B.Backend.objects c.args.backend.now).trees c.args.same_change c.args.labels.now (IsReadAt (g.B.Backend.objects c.args.backend.now).trees (g.B.Backend.may_read_tree c.args.backend.now))
@@ -107,7 +107,7 @@ loop-row-preserved g t c =
             (path_of w.as_path-dir.result) (w.as_path-dir.ensures ∙ subdirectory.0 ∙ at)
             w.deref-in-Some-subdirectory.result.now (w.deref-in-Some-subdirectory.ensures.value ∙ subdirectory.1) subdirectory.2
             c.merge_path.new.merged.resolved.items (conflict_entries c.merge_path.new.merged.conflicts.items) subdirectory.3 (ap conflict_entries subdirectory.4)
-            w.in_ok-merge_directory-in-Some-subdirectory.ensures.merge w.in_ok-merge_directory-in-Some-subdirectory.ensures.within)
+            w.in_ok-merge_directory.ensures.merge w.in_ok-merge_directory.ensures.within)
       ];
     }
 
