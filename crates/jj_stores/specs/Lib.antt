@@ -14,4 +14,5 @@ pub mod JoinRows
 pub mod JoinSteps
 pub mod FlatRefs
 pub mod FirstNameHeap
+pub mod OpStores
 pub mod Workspaces

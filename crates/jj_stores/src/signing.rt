@@ -211,6 +211,25 @@ impl SigningBackend for Box<dyn SigningBackend> {
     }
 }
 
+// Returns the result of the backend if it can read the signature and the result is decisive.
+fn decisive_result<B: SigningBackend>(
+    alloc: Global,
+    backend: &B,
+    data: &[u8],
+    signature: &[u8],
+) -> Option<SignResult<Verification>>
+    ensures { IsFirstDecisive (λ b. B.reads b signature.now)
+        (λ b. B.may_verify b «data».now signature.now) (backend.now ∷ []) result }
+{
+    if backend.can_read(signature) {
+        let outcome = backend.verify(alloc, data, signature);
+        if is_decisive(&outcome) {
+            return Some(outcome);
+        }
+    }
+    None
+}
+
 // Returns the first decisive result of the backends that can read the signature.
 fn first_decisive<B: SigningBackend>(
     alloc: Global,
@@ -222,11 +241,8 @@ fn first_decisive<B: SigningBackend>(
         (λ b. B.may_verify b «data».now signature.now) backends.now result }
 {
     for backend in backends {
-        if backend.can_read(signature) {
-            let outcome = backend.verify(alloc, data, signature);
-            if is_decisive(&outcome) {
-                return Some(outcome);
-            }
+        if let Some(outcome) = decisive_result(alloc, backend, data, signature) {
+            return Some(outcome);
         }
     }
     None
@@ -244,11 +260,8 @@ fn query_backends<B: SigningBackend>(
         (λ b. B.may_verify b «data».now signature.now) (backends first.now others.now) result }
 {
     if let Some(backend) = first {
-        if backend.can_read(signature) {
-            let outcome = backend.verify(alloc, data, signature);
-            if is_decisive(&outcome) {
-                return Some(outcome);
-            }
+        if let Some(outcome) = decisive_result(alloc, backend, data, signature) {
+            return Some(outcome);
         }
     }
     first_decisive(alloc, others, data, signature)
@@ -361,7 +374,8 @@ impl Signer {
     /// `InvalidSignatureFormat` are not decisive; without a decisive result, returns `Unknown`.
     ///
     /// Caches `Good`, `Bad`, and `Unknown` if no backend can read the signature. Any other error
-    /// is returned and not cached.
+    /// is returned and not cached. Fails with `Memory` if memory runs out, even if a backend had a
+    /// result; the cache is then unchanged.
     pub fn verify(
         &mut self,
         commit_id: &CommitId,

@@ -1,1 +1,2 @@
 mod TakenItems
+mod IdMaps

@@ -1,17 +1,23 @@
-//! Proved callers of signers, views and joins.
-ghost use Rattle.std.specs.Prelude.{◌≡◌, ◌∷◌, [], false, Some, None, OnOk, IfOk, map};
+//! Proved callers of signers, stores, views and joins.
+ghost use Rattle.std.specs.Prelude.{◌≡◌, ◌≤◌, ◌∷◌, [], ◌⊎◌, true, false, Some, None, IsNone, OnErr, IfOk, IfErr, length, map};
+ghost use Rattle.std.specs.List.{list_any};
 ghost use Rattle.std.specs.Map.{lookup};
 ghost use Rattle.std.specs.Str.{bytes_eq};
+ghost use Rattle.jj_stores.specs.FirstDecisive.{backends};
 ghost use Rattle.jj_stores.specs.FlatRefs.{IsFlattened, symbol_ref_of};
 ghost use Rattle.jj_stores.specs.JoinSteps.{row_of};
-ghost use Rattle.jj_stores.specs.Signer.{cache_entries};
+ghost use Rattle.jj_stores.specs.OpStores.{is_not_found};
+ghost use Rattle.jj_stores.specs.Signer.{cache_entries, capacity_of};
 ghost use Rattle.jj_stores.specs.Verdict.{Verdict, is_unknown};
 ghost use Rattle.jj_stores.specs.ViewJoins.{IsViewJoin};
+ghost use Rattle.jj_stores.specs.ViewLaws.{view_eq};
 
+use crate::memory_op_store::MemoryOpStore;
 use jj_ids::object_id::CommitId;
 use jj_ids::ref_name::{RefName, RemoteRefSymbol};
 use jj_stores::op_store::{
-    LocalRemoteRefTarget, RemoteRef, View, flatten_remote_refs, merge_join_ref_views,
+    LocalRemoteRefTarget, OpStore, OpStoreResult, RemoteRef, View, flatten_remote_refs,
+    merge_join_ref_views,
 };
 use jj_stores::signing::{SignError, SignResult, Signer, SigningBackend, Verification};
 use std::alloc::{AllocError, Global};
@@ -45,6 +51,25 @@ pub fn verify_first(
     Ok(found)
 }
 
+/// Verifies a commit that is not cached. The cache is unchanged after an error, and after `Unknown`
+/// if a backend can read the signature; it never exceeds its capacity.
+pub fn verify_uncached(
+    signer: &mut Signer,
+    commit_id: &CommitId,
+    data: &[u8],
+    signature: &[u8],
+) -> SignResult<Verification>
+    requires { IsNone (lookup (bytes_eq commit_id.now) (cache_entries signer.old)) }
+    ensures unknown { IfOk result (λ found. is_unknown found.status ≡ true
+        → list_any (λ b. (⟦<dyn SigningBackend as SigningBackend>⟧ b.vtable).reads
+        b.value signature.now) (backends signer.old.main signer.old.others.items) ≡ true
+        → cache_entries signer.new ≡ cache_entries signer.old) }
+    ensures error { OnErr result (cache_entries signer.new ≡ cache_entries signer.old) }
+    ensures within_capacity { length (cache_entries signer.new) ≤ capacity_of signer.new }
+{
+    signer.verify(commit_id, data, signature)
+}
+
 /// Signs data with the default key of a backend: the signature is one that the backend returns.
 pub fn sign_with(
     alloc: Global,
@@ -56,6 +81,25 @@ pub fn sign_with(
     let signer = Signer::new(alloc, Some(backend), Vec::new(alloc))?;
     let signature = signer.sign(data, None)?;
     Ok(signature)
+}
+
+/// Writes a view and reads it back: the result equals the view, and an error is one that the store
+/// may fail with.
+pub fn written_view<S: OpStore>(alloc: Global, store: &mut S, view: &View) -> OpStoreResult<View>
+    ensures view { IfOk result (λ read. view_eq read view.now ≡ true) }
+    ensures error { IfErr result (λ e. S.may_fail store.old e ⊎ S.may_fail store.new e) }
+{
+    let id = store.write_view(alloc, view)?;
+    store.read_view(alloc, &id)
+}
+
+/// Writes a view to a new in-memory store and reads it back: it is never missing.
+pub fn view_in_memory(alloc: Global, root: CommitId, view: &View) -> OpStoreResult<View>
+    ensures view { IfOk result (λ read. view_eq read view.now ≡ true) }
+    ensures error { IfErr result (λ e. is_not_found e ≡ false) }
+{
+    let mut store = MemoryOpStore::new(alloc, root)?;
+    written_view(alloc, &mut store, view)
 }
 
 /// Returns the heads of a new repository: only its root commit.

@@ -1,46 +1,81 @@
 //! The interface of stores of views and operations.
+ghost use Rattle.std.specs.Prelude.{◌≡◌, IsSome, IfOk, IfErr, OnErr};
+ghost use Rattle.jj_stores.specs.OperationLaws.{operation_eq};
+ghost use Rattle.jj_stores.specs.OpStores.{AddsEqual, IsReachable, IsReachableView, IsResolution, ReadsEqual, RemovesOthers};
+ghost use Rattle.jj_stores.specs.ViewLaws.{view_eq};
+
 use super::{OpStoreResult, Operation, OperationId, View, ViewId};
 use jj_backend::backend::MillisSinceEpoch;
 use jj_ids::object_id::{HexPrefix, PrefixResolution};
 use std::alloc::Global;
 
-/// A store of views and operations, addressed by id.
+/// A store of views and operations, addressed by id. A write that fails changes neither.
 pub trait OpStore {
+    ghost use Rattle.jj_backend.specs.Objects.{ById};
+    ghost use Rattle.jj_stores.specs.declared.op_store.errors.OpStoreError.{OpStoreError};
+    ghost use Rattle.jj_stores.specs.declared.op_store.operation.Operation.{Operation};
+    ghost use Rattle.jj_stores.specs.declared.op_store.view.View.{View};
+
+    /// The stored views, by id.
+    ghost views: { Self → ById View };
+
+    /// The stored operations, by id.
+    ghost operations: { Self → ById Operation };
+
+    /// The errors that a call may return. A read may also return `ObjectNotFound`.
+    ghost may_fail: { Self → OpStoreError → Type 0 };
+
     /// Returns the name of the type of the store.
     fn name(&self) -> &str;
 
     /// Returns the id of the root operation, the ancestor of all other operations.
-    fn root_operation_id(&self) -> &OperationId;
+    fn root_operation_id(&self) -> &OperationId
+        ensures { IsSome (operations self.now result.now) };
 
-    /// Reads a view.
-    fn read_view(&self, alloc: Global, id: &ViewId) -> OpStoreResult<View>;
+    /// Reads a view. `ObjectNotFound` means that no view has the id.
+    fn read_view(&self, alloc: Global, id: &ViewId) -> OpStoreResult<View>
+        ensures { ReadsEqual view_eq (may_fail self.now) (views self.now id.now) result };
 
     /// Stores a view and returns its id.
-    fn write_view(&mut self, alloc: Global, contents: &View) -> OpStoreResult<ViewId>;
+    fn write_view(&mut self, alloc: Global, contents: &View) -> OpStoreResult<ViewId>
+        ensures ok { IfOk result (λ id.
+            AddsEqual view_eq (views self.old) (views self.new) id contents.now) }
+        ensures unchanged { OnErr result (views self.new ≡ views self.old) }
+        ensures same_operations { operations self.new ≡ operations self.old }
+        ensures error { IfErr result (may_fail self.old) };
 
-    /// Reads an operation.
-    fn read_operation(&self, alloc: Global, id: &OperationId) -> OpStoreResult<Operation>;
+    /// Reads an operation. `ObjectNotFound` means that no operation has the id.
+    fn read_operation(&self, alloc: Global, id: &OperationId) -> OpStoreResult<Operation>
+        ensures { ReadsEqual operation_eq (may_fail self.now) (operations self.now id.now) result };
 
     /// Stores an operation and returns its id.
-    fn write_operation(
-        &mut self,
-        alloc: Global,
-        contents: &Operation,
-    ) -> OpStoreResult<OperationId>;
+    fn write_operation(&mut self, alloc: Global, contents: &Operation) -> OpStoreResult<OperationId>
+        ensures ok { IfOk result (λ id.
+            AddsEqual operation_eq (operations self.old) (operations self.new) id contents.now) }
+        ensures unchanged { OnErr result (operations self.new ≡ operations self.old) }
+        ensures same_views { views self.new ≡ views self.old }
+        ensures error { IfErr result (may_fail self.old) };
 
     /// Resolves a prefix of an operation id.
     fn resolve_operation_id_prefix(
         &self,
         alloc: Global,
         prefix: &HexPrefix,
-    ) -> OpStoreResult<PrefixResolution<OperationId>>;
+    ) -> OpStoreResult<PrefixResolution<OperationId>>
+        ensures ok { IfOk result (IsResolution (operations self.now) prefix.now) }
+        ensures error { IfErr result (may_fail self.now) };
 
     /// Deletes views and operations that are not reachable from `head_ids` and are not newer than
-    /// `keep_newer`.
+    /// `keep_newer`. After a failure some of them may have been deleted.
     fn gc(
         &mut self,
         alloc: Global,
         head_ids: &[OperationId],
         keep_newer: MillisSinceEpoch,
-    ) -> OpStoreResult<()>;
+    ) -> OpStoreResult<()>
+        ensures kept_operations { RemovesOthers (IsReachable (operations self.old) head_ids.now)
+            (operations self.old) (operations self.new) }
+        ensures kept_views { RemovesOthers (IsReachableView (operations self.old) head_ids.now)
+            (views self.old) (views self.new) }
+        ensures error { IfErr result (may_fail self.old) };
 }

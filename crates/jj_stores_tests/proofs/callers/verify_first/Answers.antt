@@ -1,9 +1,9 @@
-use Rattle.std.proofs.Common.{◌≡◌, ℕ, Bool, true, false, ◌⊎◌, inl, inr, List, [], ◌∷◌, Option, Some, None, Ok, IsNone, subst, sym, ap, ap₂, ◌∙◌, refl, true≢false}
+use Rattle.std.proofs.Common.{◌≡◌, ℕ, Bool, true, false, inl, inr, List, [], Option, Some, None, Ok, IsNone, subst, sym, ap, ap₂, ◌∙◌, refl, true≢false}
 use Rattle.std.specs.Bool.{MatchBool}
 use Rattle.std.specs.Map.{lookup}
 use Rattle.std.specs.Str.{bytes_eq}
 use Rattle.jj_stores.specs.FirstDecisive.{VerifyResult, IsFirstDecisive, IsVerified, backends, is_decisive}
-use Rattle.jj_stores.specs.Verdict.{Verdict, is_unknown, unknown_verdict}
+use Rattle.jj_stores.specs.Verdict.{Verdict, is_unknown}
 use Rattle.jj_stores_tests.proofs.callers.verify_first.Goals as goal
 
 -- the result is this one, which must be decisive
