@@ -1,5 +1,5 @@
 -- The entries of a log as the rows of its table, and the errors of an insertion.
--- Cited by contracts of public items: ContainsEntries, MayFailToInsert,
+-- Cited by contracts of public items: ContainsEntries, FailsToInsert, MayFailToInsert,
 -- WasNewOrContains.
 use Rattle.std.specs.Prelude.{◌≡◌, ◌⊎◌, List, Err, IsTrue}
 use Rattle.sqlite.specs.declared.error.Error.{Error}
@@ -7,9 +7,9 @@ use Rattle.sqlite.specs.Store.{Ghosts}
 use Rattle.sqlite.specs.State.{HasCleanDisk, Executes}
 use Rattle.sqlite.specs.Held.{Held, state}
 use Rattle.jj_files.specs.declared.file_util.errors.SourceKind.TheVariants.{Io}
+use Rattle.jj_backend.specs.Errors.{IsOtherOf}
 use Rattle.jj_backend.specs.declared.backend.errors.BackendError.{BackendError}
 use Rattle.jj_backend.specs.declared.backend.errors.BackendError.TheVariants.{Memory}
-use Rattle.jj_trees.specs.MemoryErrors.{IsOtherOf}
 use Rattle.jj_mirror.specs.Entries.{LogEntryValue}
 use Rattle.jj_sqlite.specs.Tables.{HasEntries, IsNewOrHas, insert_statement, entry_row}
 

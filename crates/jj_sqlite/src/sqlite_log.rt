@@ -5,12 +5,12 @@ ghost use Rattle.std.specs.List.Sorted.{IsPermutation};
 ghost use Rattle.sqlite.specs.Held.{state};
 ghost use Rattle.sqlite.specs.Order.{Row};
 ghost use Rattle.sqlite.specs.State.{HasCleanDisk, Executes, FailsToQuery, Shown};
-ghost use Rattle.jj_trees.specs.MemoryErrors.{IsOtherOf};
+ghost use Rattle.jj_backend.specs.Errors.{IsOtherOf};
 ghost use Rattle.jj_mirror.specs.Entries.{LogEntryValue};
 ghost use Rattle.jj_mirror.specs.Logs.{Appends, Keeps};
 ghost use Rattle.jj_sqlite.specs.Tables.{create_statement, insert_statement, select_statement};
 ghost use Rattle.jj_sqlite.specs.Tables.{entry_row};
-ghost use Rattle.jj_sqlite.specs.Inserts.{ContainsEntries, MayFailToInsert, WasNewOrContains};
+ghost use Rattle.jj_sqlite.specs.Inserts.{ContainsEntries, FailsToInsert, MayFailToInsert, WasNewOrContains};
 ghost use Rattle.jj_sqlite.specs.Rows.{IsEntryRow, IsGoodRow, IsRowError, IsReadError};
 ghost use Rattle.jj_sqlite.specs.Opening.{IsCreated, FailsToCreate, FailsToRead};
 
@@ -33,14 +33,15 @@ impl<S: Alter + Drop> Drop for SqliteLog<S> {
 }
 
 impl<S: Alter> SqliteLog<S> {
-    /// Opens the log of a database, and creates its table if there is none. An error returns the
-    /// connection too.
+    /// Opens the log of a database, and creates its table if there is none. Fails with `Sqlite`, or
+    /// with `Memory` if memory runs out; an error returns the connection too.
     pub fn over(mut conn: Connection<S>) -> Result<Self, (OpenError, Connection<S>)>
         ensures ok { IfOk result (λ log. HasCleanDisk (state S.Store log.conn)
             → IsCreated S.Store conn log.conn) }
         ensures entries { IfOk result (λ log. (entries : List LogEntryValue)
             → WasNewOrContains S.Store conn entries → ContainsEntries S.Store log.conn entries) }
-        // The disk has never returned other bytes than were written to it, if it has not now.
+        // If the disk has returned only what was written to it up to the end of the call, it had at
+        // the start.
         ensures clean { IfOk result (λ log. HasCleanDisk (state S.Store log.conn)
             → HasCleanDisk (state S.Store conn)) }
         ensures error { IfErr result (λ e. HasCleanDisk (state S.Store e.1)
@@ -52,8 +53,9 @@ impl<S: Alter> SqliteLog<S> {
         }
     }
 
-    /// Reads the entries. Fails with `WrongObject` at the first entry whose id is not the digest of
-    /// its object.
+    /// Reads the entries. Fails with `Sqlite` if the query fails, at the first row that cannot be
+    /// read (`Sqlite`), whose kind is unknown (`UnknownKind`) or whose id is not the digest of its
+    /// object (`WrongObject`), and with `Memory` if memory runs out.
     pub fn read_entries(&mut self, alloc: Global) -> Result<Vec<LogEntry>, OpenError>
         ensures rows { HasCleanDisk (state S.Store self.new.conn) → IfOk result (λ entries.
             (rows : List Row) × AllZip IsGoodRow rows entries.items
@@ -131,8 +133,9 @@ fn checked_entry(row: &Row) -> Result<LogEntry, OpenError>
     }
 }
 
-/// Returns the entries of the rows of a log. Fails with `WrongObject` at the first entry whose id
-/// is not the digest of its object.
+/// Returns the entries of the rows of a log. Fails at the first row that cannot be read (`Sqlite`),
+/// whose kind is unknown (`UnknownKind`) or whose id is not the digest of its object
+/// (`WrongObject`), and with `Memory` if memory runs out.
 #[tactic(auto, using(crate::proofs::RowErrors::read_error))]
 pub fn entries_from_rows(alloc: Global, rows: &[Row]) -> Result<Vec<LogEntry>, OpenError>
     ensures ok { IfOk result (λ entries. AllZip IsGoodRow rows.now entries.items) }
@@ -188,7 +191,17 @@ impl<S: Alter> ObjectLog for SqliteLog<S> {
         kind: ObjectKind,
         id: &[u8],
         bytes: &[u8],
-    ) -> BackendResult<()> {
+    ) -> BackendResult<()>
+        ensures ok { OnOk result (Appends (ContainsEntries S.Store) self.old.conn self.new.conn
+            (record { kind = kind; id = id.now; bytes = bytes.now })) }
+        ensures unchanged { OnErr result
+            (Keeps (ContainsEntries S.Store) self.old.conn self.new.conn) }
+        ensures error { IfErr result (MayFailToInsert S.Store self.old.conn
+            (record { kind = kind; id = id.now; bytes = bytes.now })) }
+        ensures cause { IfErr result (λ e. (e ≡ BackendError.Memory) ⊎ ((cause : Error)
+            × FailsToInsert S.Store (record { kind = kind; id = id.now; bytes = bytes.now })
+            self.old.conn self.new.conn cause × IsOtherOf SourceKind.Io e)) }
+    {
         match insert_entry(&mut self.conn, kind, id, bytes) {
             Ok(_) => Ok(()),
             Err(error) => Err(convert_error(alloc, error)),

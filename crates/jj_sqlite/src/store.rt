@@ -37,8 +37,8 @@ fn replay_log<S: Alter>(alloc: Global, log: &mut SqliteLog<S>) -> Result<MemoryB
 }
 
 /// Opens the backend whose log is in a database: reads the entries and replays them into a backend
-/// in memory. Creates the log if there is none. The backend has whole digests as ids. An error
-/// returns the connection too.
+/// in memory. Creates the log if there is none. The backend has whole digests as ids. Fails as
+/// `SqliteLog::over`, `read_entries` and `replay` do; an error returns the connection too.
 pub fn open_store<S: Alter>(
     alloc: Global,
     conn: Connection<S>,
@@ -52,7 +52,8 @@ pub fn open_store<S: Alter>(
     ensures kept { IfOk result (λ store. (entries : List LogEntryValue)
         → WasNewOrContains S.Store conn entries
         → ContainsEntries S.Store store.log.conn entries) }
-    // The disk has never returned other bytes than were written to it, if it has not now.
+    // If the disk has returned only what was written to it up to the end of the call, it had at
+    // the start.
     ensures clean { IfOk result (λ store. HasCleanDisk (state S.Store store.log.conn)
         → HasCleanDisk (state S.Store conn)) }
     ensures error { IfErr result (λ e. HasCleanDisk (state S.Store e.1)

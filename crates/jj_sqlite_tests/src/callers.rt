@@ -1,5 +1,5 @@
-//! Proved callers: a commit that is read from a database that is opened again.
-ghost use Rattle.std.specs.Prelude.{◌≡◌, ◌++◌, [], ◌∷◌, true, List, Contains, IfOk, IfSome, OnOk};
+//! Proved callers: a commit that is read from a database by a later process.
+ghost use Rattle.std.specs.Prelude.{◌≡◌, ◌++◌, [], ◌∷◌, true, IsTrue, List, All, Contains, IfOk, IfErr, OnOk};
 ghost use Rattle.sqlite.specs.Files.{file_state, over_files};
 ghost use Rattle.sqlite.specs.Held.{state};
 ghost use Rattle.sqlite.specs.State.{HasCleanDisk};
@@ -9,10 +9,10 @@ ghost use Rattle.jj_backend.specs.Objects.{commit_object};
 ghost use Rattle.jj_backend.specs.Records.{CommitValue, commit_eq};
 ghost use Rattle.jj_mirror.specs.Entries.{LogEntryValue, entry_of};
 ghost use Rattle.jj_mirror.specs.Logs.{Appends};
-ghost use Rattle.jj_mirror.specs.declared.object_log.ObjectKind.{ObjectKind};
 ghost use Rattle.jj_sqlite.specs.Inserts.{ContainsEntries, WasNewOrContains};
 ghost use Rattle.jj_sqlite.specs.Rows.{HasDigest};
-ghost use Rattle.jj_sqlite.specs.declared.error.OpenError.TheVariants.{WrongObject};
+ghost use Rattle.jj_sqlite.specs.WrongObjects.{HasWrongObject};
+ghost use Rattle.jj_sqlite_tests.specs.SavedFiles.{FilesContain};
 
 use jj_backend::backend::{Backend, BackendResult, Commit, CommitId, NoSigner};
 use jj_content::content_hash::blake2b_hash;
@@ -22,7 +22,7 @@ use jj_sqlite::sqlite_log::SqliteLog;
 use jj_sqlite::store::open_store;
 use jj_trees::memory_backend::MemoryBackend;
 use sqlite::{Alter, Connection, FileStore, Options};
-use sqlite_disk::Disk;
+use sqlite_disk::{Disk, Files};
 use std::alloc::{AllocError, Global};
 
 fn log_commit<S: Alter>(
@@ -97,31 +97,70 @@ pub fn read_stored<S: Alter>(
     }
 }
 
-// Closes the files of a database and opens them again.
-fn reopen<D: Disk + Drop>(
-    alloc: Global,
-    conn: Connection<FileStore<D>>,
-    options: Options,
-) -> Result<Connection<FileStore<D>>, OpenError>
-    ensures { IfOk result (λ again. (entries : List LogEntryValue)
-        → ContainsEntries over_files conn entries → ContainsEntries over_files again entries) }
+// Closes the files of a database.
+fn close_database<D: Disk + Drop>(conn: Connection<FileStore<D>>) -> Result<Files<D>, OpenError>
+    ensures entries { IfOk result (λ files. (entries : List LogEntryValue)
+        → ContainsEntries over_files conn entries → FilesContain D.Disk files entries) }
+    ensures log { IfOk result (λ files. IsTrue (D.Disk.is_usable files.log)) }
+    ensures db { IfOk result (λ files. IsTrue (D.Disk.is_usable files.db)) }
 {
     let _schema = conn.schema();
-    let files = match conn.close_files() {
-        Ok(files) => files,
+    match conn.close_files() {
+        Ok(files) => Ok(files),
         Err((error, store)) => {
             drop(store.close());
-            return Err(OpenError::from(error));
+            Err(OpenError::from(error))
         }
-    };
-    match Connection::open_files(alloc, files, options) {
-        Ok(again) => Ok(again),
-        Err((error, _)) => Err(OpenError::from(error)),
     }
 }
 
-/// Writes a commit to the files of a database and closes them. Opens them again, as a later process
-/// does, and reads an equal commit.
+/// Writes a commit to the files of a database and closes them: whoever opens the files finds its
+/// entry in the log. Returns the digest as an id, and the files.
+pub fn save_commit<D: Disk + Drop>(
+    alloc: Global,
+    conn: Connection<FileStore<D>>,
+    commit: Commit,
+) -> Result<(CommitId, Files<D>), OpenError>
+    ensures id { IfOk result (λ saved. saved.0 ≡ blake2b (commit_content commit)) }
+    ensures value { OnOk result (IsCommit commit) }
+    ensures logged { IfOk result (λ saved. (entries : List LogEntryValue)
+        → WasNewOrContains over_files conn entries
+        → FilesContain D.Disk saved.1 (entries ++ entry_of (commit_object commit) ∷ [])) }
+    ensures log { IfOk result (λ saved. IsTrue (D.Disk.is_usable saved.1.log)) }
+    ensures db { IfOk result (λ saved. IsTrue (D.Disk.is_usable saved.1.db)) }
+{
+    let (written, conn) = write_stored(alloc, conn, commit);
+    let id = written?;
+    let files = close_database(conn)?;
+    Ok((id, files))
+}
+
+/// Opens the files of a database, as a later process does, and reads a commit: that of an entry in
+/// the log, if the id is its digest.
+pub fn load_commit<D: Disk + Drop>(
+    alloc: Global,
+    files: Files<D>,
+    options: Options,
+    id: &CommitId,
+) -> Result<(Commit, Connection<FileStore<D>>), OpenError>
+    requires log { IsTrue (D.Disk.is_usable files.log) }
+    requires db { IsTrue (D.Disk.is_usable files.db) }
+    ensures { IfOk result (λ loaded. HasCleanDisk (file_state loaded.1)
+        → (entries : List LogEntryValue) → FilesContain D.Disk files entries
+        → (commit : CommitValue) → IsCommit commit
+        → Contains entries (entry_of (commit_object commit))
+        → id.now ≡ blake2b (commit_content commit) → commit_eq commit loaded.0 ≡ true) }
+{
+    let conn = match Connection::open_files(alloc, files, options) {
+        Ok(conn) => conn,
+        Err((error, _)) => return Err(OpenError::from(error)),
+    };
+    let (read, conn) = read_stored(alloc, conn, id);
+    Ok((read?, conn))
+}
+
+/// Writes a commit to the files of a database and closes them. Opens them again and reads an equal
+/// commit.
 pub fn reread_commit<D: Disk + Drop>(
     alloc: Global,
     conn: Connection<FileStore<D>>,
@@ -132,40 +171,29 @@ pub fn reread_commit<D: Disk + Drop>(
         → (entries : List LogEntryValue) → WasNewOrContains over_files conn entries
         → commit_eq commit reread.0 ≡ true) }
 {
-    let (written, conn) = write_stored(alloc, conn, commit);
-    let id = written?;
-    let again = reopen(alloc, conn, options)?;
-    let (read, again) = read_stored(alloc, again, &id);
-    Ok((read?, again))
+    let saved = save_commit(alloc, conn, commit)?;
+    let (id, files) = saved;
+    load_commit(alloc, files, options, &id)
 }
 
-// Returns the id that the error names, if it is of an object with another digest.
-fn wrong_id(error: OpenError) -> Option<Vec<u8>>
-    ensures { IfSome result (λ id. (kind : ObjectKind) × (error ≡ WrongObject kind id)) }
-{
-    match error {
-        OpenError::WrongObject { kind: _, id } => Some(id),
-        _ => None,
-    }
-}
-
-/// Opens a store over a database. If that fails with `WrongObject`, returns the id, which is that
-/// of an entry in the log whose object has another digest.
-pub fn wrong_object<S: Alter>(
+/// Opens a store over a database. If that succeeds, each entry in the log has the digest of its
+/// object as its id; else `WrongObject` names an entry that has not.
+pub fn check_objects<S: Alter>(
     alloc: Global,
     conn: Connection<S>,
-) -> (Option<Vec<u8>>, Connection<S>)
-    ensures { HasCleanDisk (state S.Store conn) → HasCleanDisk (state S.Store result.1)
-        → IfSome result.0 (λ id. (entries : List LogEntryValue)
-        → WasNewOrContains S.Store conn entries
-        → (entry : LogEntryValue) × Contains entries entry × (entry.id ≡ id.items)
-        × ¬ (HasDigest entry)) }
+) -> (Result<(), OpenError>, Connection<S>)
+    ensures ok { HasCleanDisk (state S.Store result.1) → OnOk result.0
+        ((entries : List LogEntryValue) → WasNewOrContains S.Store conn entries
+        → All HasDigest entries) }
+    ensures error { HasCleanDisk (state S.Store conn) → HasCleanDisk (state S.Store result.1)
+        → IfErr result.0 (λ e. (entries : List LogEntryValue)
+        → WasNewOrContains S.Store conn entries → HasWrongObject entries e) }
 {
     match open_store(alloc, conn) {
         Ok(store) => {
             let (_, log) = store.into_parts();
-            (None, log.into_connection())
+            (Ok(()), log.into_connection())
         }
-        Err((error, conn)) => (wrong_id(error), conn),
+        Err((error, conn)) => (Err(error), conn),
     }
 }

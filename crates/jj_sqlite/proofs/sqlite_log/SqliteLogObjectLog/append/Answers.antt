@@ -19,3 +19,9 @@ returns-in-Err-clause-error g c = elim c.convert_error.ensures [
   | inl memory ↦ inl memory
   | inr other ↦ inr (c.insert_entry.new.conn, c.in-Err.error, c.in-Err.ensures.runs, other)
 ]
+
+pub returns-in-Err-clause-cause : goal.returns-in-Err-clause-cause
+returns-in-Err-clause-cause g c = elim c.convert_error.ensures [
+  | inl memory ↦ inl memory
+  | inr other ↦ inr (c.in-Err.error, c.in-Err.ensures.runs, other)
+]

@@ -1,0 +1,10 @@
+use Rattle.sqlite.specs.Files.{file_state}
+use Rattle.sqlite.proofs.Callers.{finds_again}
+use Rattle.jj_sqlite.proofs.Reopened.{entries_again}
+use Rattle.jj_sqlite_tests.proofs.callers.close_database.Goals as goal
+
+pub returns-in-Ok-clause-entries : goal.returns-in-Ok-clause-entries
+returns-in-Ok-clause-entries g c = λ entries has conn clean found opened again is_open.
+    let copied = c.in-Ok.ensures.copied found.honest in
+    entries_again (file_state c.args.conn) (file_state conn) entries c.schema-schema.ensures.live copied.was_open
+    (has copied.was_clean copied.was_open) opened.0 opened.1 (finds_again c.args.conn conn c.in-Ok.files c.in-Ok.ensures.copied found)

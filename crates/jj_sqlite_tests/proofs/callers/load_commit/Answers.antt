@@ -1,0 +1,10 @@
+use Rattle.std.proofs.Common.{◌≡◌, inl, Result, Ok, IfOk, subst}
+use Rattle.jj_sqlite_tests.proofs.callers.load_commit.Goals as goal
+
+of_ok : {A E : Type 0} (result : Result A E) (value : A) (P : A → Type 0) → result ≡ Ok value → IfOk result P → P value
+of_ok result value P is holds = subst (λ (r : Result _ _). IfOk r P) is holds
+
+pub returns : goal.returns
+returns g c = λ clean entries saved.
+    of_ok c.read_stored-read.result.0 c.in_ok-read.field-0 _ c.in_ok-read.was (c.read_stored-read.ensures clean) entries
+    (λ clean_then is_open. inl (saved c.in-Ok.conn clean_then (c.in-Ok.ensures.found clean_then) (c.in-Ok.ensures.opened clean_then) clean_then is_open))
