@@ -301,7 +301,7 @@ impl<'a> RepoPath<'a> {
         (self.without_suffix(rest), rest)
     }
 
-    // the rest of this path after the longest common prefix
+    // Returns what follows the longest common prefix in this path.
     fn after_common(self, other: RepoPath<'_>) -> RepoPath<'a>
         ensures { path_of result ≡ after_common (path_of self.entry) (path_of other.entry) }
     {
@@ -319,7 +319,7 @@ impl<'a> RepoPath<'a> {
         rest
     }
 
-    // the path without a suffix of it and the slash before that
+    // Returns the path without this suffix and the slash before it.
     fn without_suffix(self, rest: RepoPath<'_>) -> RepoPath<'a>
         requires { (prefix : Path) × (path_of self ≡ prefix ++ path_of rest) }
         ensures { path_of self.entry ≡ path_of result ++ path_of rest.entry }
@@ -350,7 +350,7 @@ impl<'a> RepoPath<'a> {
         RepoPathAncestors::new(self)
     }
 
-    // the path without its first component; of the root, the root
+    // Returns the path without its first component; the root for the root.
     pub(crate) fn rest(self) -> RepoPath<'a>
         ensures { path_of result ≡ rest_of (path_of self.entry) }
     {
@@ -454,7 +454,7 @@ impl InvalidNewRepoPathError {
     }
 }
 
-// a copy of a string, with capacity for `more` bytes beyond it
+// Returns a copy of a string, with capacity for `more` further bytes.
 fn copy_with_capacity(alloc: Global, text: &str, more: usize) -> Result<String, AllocError>
     ensures { IfOk result (λ copy. string_bytes copy ≡ text.now) }
 {

@@ -291,7 +291,7 @@ impl<V> RepoPathNode<V> {
     ghost use Rattle.jj_paths.specs.contracts.repo_path_tree.RepoPathTree as tree;
     ghost use Rattle.jj_paths.specs.Names.{name_of, path_of};
 
-    // the child at the first component of a path
+    // Returns the child at the first component of a path.
     fn step_mut(&mut self, path: RepoPath<'_>) -> &mut RepoPathTree<V>
         requires { IsSome (get self.old (path_of path)) × (path_of path ≢ []) }
         ensures* writes_back { sem 𝓛 (Lends (the_row V.row) (tree.the_row V.row) self.entry result
@@ -327,7 +327,7 @@ impl<V> RepoPathTree<V> {
         RepoPathTree::new(alloc, V::default())
     }
 
-    // a tree of the root only
+    // Creates a tree of a root without children.
     fn new(alloc: Global, value: V) -> RepoPathTree<V>
         ensures { result ≡ tree_of value none }
     {
@@ -415,7 +415,7 @@ impl<V> RepoPathTree<V> {
         Some(tree)
     }
 
-    // the child at the first component, and the rest of the path
+    // Returns the child at the first component, and the rest of the path.
     fn step<'b>(&self, path: RepoPath<'b>) -> Option<(&RepoPathTree<V>, RepoPath<'b>)>
         ensures { nodes_from (option_map (λ step. (step.0.now, path_of step.1)) result)
             ≡ nodes_below self.now (path_of path.entry) }

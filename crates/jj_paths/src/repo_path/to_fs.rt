@@ -147,7 +147,7 @@ impl<'a> RepoPath<'a> {
         text_or_dot(path)
     }
 
-    // a copy of `base`, with capacity for this path
+    // Returns a copy of `base`, with capacity for this path.
     fn base_with_capacity(self, alloc: Global, base: &str) -> Result<PathBuf, AllocError>
         ensures { IfOk result (λ path. path_buf_bytes path ≡ base.now) }
     {

@@ -23,7 +23,7 @@ impl<V> RepoPathNode<V> {
         }
     }
 
-    // the child at the first component, and the rest of the path
+    // Returns the child at the first component, and the rest of the path.
     fn step<'b>(&self, path: RepoPath<'b>) -> Option<(&RepoPathNode<V>, RepoPath<'b>)>
         ensures { nodes_from (option_map (λ step. (step.0.now, path_of step.1)) result)
             ≡ nodes_below self.now (path_of path.entry) }
