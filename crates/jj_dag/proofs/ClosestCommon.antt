@@ -335,7 +335,7 @@ module _ {T ID : Type 0} (w : GraphModel T ID) where
         );
       })
 
-  -- the node a was popped, and its state was passed to its neighbours in `yielded`
+  -- the node a was popped, and its state was passed to its neighbors in `yielded`
   pub record HandsOn (set1 set2 : List ℕ) (m : ℕ → Sides) (a : ℕ) (known : Sides) (pending : List T) (common : List (ID × T)) (rooted : Bool) (find : ID → NodeState) (yielded : List ℕ) : Type 0 where
     pub marking : IsMarking w.graph set1 set2 m (a ∷ map w.node pending) (map (λ entry. w.node entry.1) common) rooted
     pub states : KnowsStates w m pending find
@@ -410,7 +410,7 @@ module _ {T ID : Type 0} (w : GraphModel T ID) where
       let reached = k.reached (w.node x) was_queued in
       (reached, are_nodes {E = ℕ} w (λ a. []) (set1 ++ set2) closed (both_nodes set1 set2 first second) (w.node x) reached)
 
-  -- the popped node is expanded: its neighbours get its sides
+  -- the popped node is expanded: its neighbors get its sides
   pub asks : {set1 set2 : List ℕ} {m : ℕ → Sides} {pending pending2 : List T} {common : List (ID × T)} {rooted : Bool} {find : ID → NodeState} (eq : ID → ID → Bool) (find2 : ID → NodeState) (x : T) (i : ID) (known : Sides)
       → ((a : ℕ) → w.is_node a ≡ true → AreNodes w (w.graph a)) → Apart eq → AreNodes w set1 → AreNodes w set2 → HoldsMarks set1 set2 m pending common rooted find
       → IsPermutation pending (x ∷ pending2) → (w.is_node (w.node x) ≡ true → w.id i ≡ w.node x) → known ≡ (find i).sides
@@ -438,7 +438,7 @@ module _ {T ID : Type 0} (w : GraphModel T ID) where
       ap (λ t. (added.left && not t) || (added.right && not known.right)) l ∙ ap (λ t. (added.left && not added.left) || (added.right && not t)) r
       ∙ ap (λ t. t || (added.right && not added.right)) (not_self added.left) ∙ not_self added.right
 
-  -- one neighbour more has it
+  -- one neighbor more has it
   pub hands_more : (eq : ID → ID → Bool) (set1 set2 : List ℕ) (m : ℕ → Sides) (a : ℕ) (known : Sides) (pending pending2 : List T) (common : List (ID × T)) (rooted : Bool) (find find2 : ID → NodeState) (yielded : List ℕ) (x : T) (i : ID)
       → Apart eq → HandsOn set1 set2 m a known pending common rooted find yielded → HasEdge w.graph a (w.node x) → w.is_node (w.node x) ≡ true → w.id i ≡ w.node x
       → ((q : ID) → find2 q ≡ cond (eq i q) (state_with (find i) (propagated known)) (find q))
@@ -522,7 +522,7 @@ module _ {T ID : Type 0} (w : GraphModel T ID) where
       → (entry : ID × T) → Contains (common ++ (i, x) ∷ []) entry → w.id entry.0 ≡ w.node entry.1
   ids_more common x i ids same entry h = ⊎_elim (λ old. ids entry old) (λ new. subst (λ (e : ID × T). w.id e.0 ≡ w.node e.1) new same) (Contains-push_cases common (i, x) entry h)
 
-  -- all its neighbours have it, and the node is common
+  -- all its neighbors have it, and the node is common
   hands_common : {set1 set2 : List ℕ} {m : ℕ → Sides} {known : Sides} {pending : List T} {common : List (ID × T)} {rooted : Bool} {find : ID → NodeState} {yielded : List ℕ} (x : T) (i : ID) (is_root : Bool)
       → HandsOn set1 set2 m (w.node x) known pending common rooted find yielded → w.id i ≡ w.node x → IsBoth known
       → ((b : ℕ) → HasEdge w.graph (w.node x) b → Contains yielded b) → (is_root ≡ false → (b : ℕ) × HasEdge w.graph (w.node x) b)
@@ -544,7 +544,7 @@ module _ {T ID : Type 0} (w : GraphModel T ID) where
         reached = λ b h. k.reached b (Contains-append_right (y ∷ []) W b h);
       }
 
-  -- all its neighbours have it, and the node is on one side
+  -- all its neighbors have it, and the node is on one side
   hands_side : {set1 set2 : List ℕ} {m : ℕ → Sides} {a : ℕ} {known : Sides} {pending : List T} {common : List (ID × T)} {rooted : Bool} {find : ID → NodeState} {yielded : List ℕ} (is_root : Bool)
       → HandsOn set1 set2 m a known pending common rooted find yielded → (known.left && known.right) ≡ false
       → ((b : ℕ) → HasEdge w.graph a b → Contains yielded b) → (is_root ≡ false → (b : ℕ) × HasEdge w.graph a b)
@@ -565,7 +565,7 @@ module _ {T ID : Type 0} (w : GraphModel T ID) where
         reached = λ b h. k.reached b (Contains-append_right (a ∷ []) W b h);
       }
 
-  -- an expanded node, all of whose neighbours got its sides, becomes a candidate if both sets reach
+  -- an expanded node, all of whose neighbors got its sides, becomes a candidate if both sets reach
   -- it
   pub hands_over : {set1 set2 : List ℕ} {m : ℕ → Sides} {known : Sides} {pending : List T} {common common2 : List (ID × T)} {rooted : Bool} {find : ID → NodeState} {yielded : List ℕ} (more : List (ID × T)) (x : T) (i : ID) (is_root : Bool)
       → HandsOn set1 set2 m (w.node x) known pending common rooted find yielded → w.id i ≡ w.node x → common2 ≡ cond (known.left && known.right) more common → more ≡ common ++ (i, x) ∷ []

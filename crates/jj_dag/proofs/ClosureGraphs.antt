@@ -28,7 +28,7 @@ may_return_later (more before called) may = may_return_later before (later calle
 pub returns_id : {T ID F : Type 0} (ids : Shared F (Bor T × Unit {0}) (Result ID AllocError)) {f : F} {p : Bor T} {r : Result ID AllocError} {i : ID} → ids.post f (p, tt) r → r ≡ Ok i → ReturnsId ids f p.now i
 returns_id ids {f} {p} h is = record { shown = p; shows = refl; says = record { met = subst (λ s. ids.post f (p, tt) s) is h } }
 
--- the closures implement the same models after a call, and the call returned the neighbours of its
+-- the closures implement the same models after a call, and the call returned the neighbors of its
 -- node
 pub implements_after : {T ID F N R : Type 0} (w : GraphModel T ID) (eq : ID → ID → Bool) (ids : Shared F (Bor T × Unit {0}) (Result ID AllocError)) (lists : Mut N (Bor T × Unit {0}) R) (yields : R → List T → Type 0) {id_fn : F} {f f' : N} {x : T} {r : R}
     → Implements w eq ids lists yields id_fn f → CalledAt lists f x r f'

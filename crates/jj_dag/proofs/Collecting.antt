@@ -1,4 +1,4 @@
--- Invariants of a search that collects nodes, each with the ids of its neighbours.
+-- Invariants of a search that collects nodes, each with the ids of its neighbors.
 use Rattle.std.proofs.Common.{◌≡◌, ℕ, zero, suc, ◌+◌, ◌<◌, Bool, true, false, cond, Option, None, Some, is_some, Result, Ok, Err, MatchOption, List, [], ◌∷◌, ◌++◌, length, map, get_or, refl, sym, ◌∙◌, ap, subst, arith, ◌==◌, inl, inr, ◌⊎◌, ⊎_elim, true≢false, length-append}
 use Rattle.std.specs.List.{Contains, filter_map}
 use Rattle.std.specs.Result.{result_ok}
@@ -104,7 +104,7 @@ module _ {T ID E : Type 0} (w : GraphModel T ID) (items : FallibleGraph E) where
         none_failed = k.none_failed;
       }
 
-  -- a new node is visited, and its neighbours are pending
+  -- a new node is visited, and its neighbors are pending
   pub collecting_entered : {starts : List ℕ} {find : ID → Option ℕ} {work visited : List T} {ids : List (List ID)} (eq : ID → ID → Bool) (find2 : ID → Option ℕ) (rest : List T) (x : T) (i : ID) (below work2 visited2 : List T) (new_ids : List ID) (ids2 : List (List ID)) (index : ℕ)
       → ((a : ℕ) → w.graph a ≡ ok_graph items a) → ((a : ℕ) → w.is_node a ≡ true → AreNodes w (w.graph a)) → ((i j : ID) → w.is_node (w.id i) ≡ true → w.is_node (w.id j) ≡ true → eq i j ≡ (w.id i == w.id j))
       → IsCollecting w items starts find work visited ids → work ≡ rest ++ x ∷ [] → w.is_node (w.node x) ≡ true → w.id i ≡ w.node x → find i ≡ None

@@ -66,7 +66,7 @@ kept_below m y r b h = at_mark m y r b (λ k. k.below ≡ true) (λ e. or_left (
 pub kept_both : (m : ℕ → Sides) (y : ℕ) (r : Sides) (b : ℕ) → IsBoth (m b) → IsBoth (states_more m y r b)
 kept_both m y r b (l, h) = (kept_left m y r b l, kept_right m y r b h)
 
--- the state l of a neighbour includes what the state k of a node passes on
+-- the state l of a neighbor includes what the state k of a node passes on
 pub record Passes (k l : Sides) : Type 0 where
   pub left : k.left ≡ true → l.left ≡ true
   pub right : k.right ≡ true → l.right ≡ true
@@ -100,7 +100,7 @@ module _ (g : Graph) (set1 set2 : List ℕ) where
   pub is_common : {m : ℕ → Sides} {todo found : List ℕ} {rooted : Bool} → IsMarking m todo found rooted → (a : ℕ) → IsBoth (m a) → IsCommon g set1 set2 a
   is_common k a (l, h) = (k.left a l, k.right a h)
 
-  -- ---- a neighbour of an open node gets its sides
+  -- ---- a neighbor of an open node gets its sides
 
   pub marking_more : {m : ℕ → Sides} {todo found : List ℕ} {rooted : Bool} (todo2 : List ℕ) (k : Sides) (a y : ℕ) → IsMarking m todo found rooted
       → ((k.left ≡ true) → (m a).left ≡ true) → ((k.right ≡ true) → (m a).right ≡ true) → HasEdge g a y

@@ -176,7 +176,7 @@ module _ {T ID : Type 0} (w : GraphModel T ID) where
   seen_is_node k a (inl h) = k.starts_stand a h
   seen_is_node k a (inr h) = k.met_stand a h
 
-  -- a neighbour of a pending node is found
+  -- a neighbor of a pending node is found
   pub holds_met : {starts met queue : List ℕ} {rooted : Bool} {keys : List T} {in_heads : T → Bool} {test : ID → Bool} (eqT : T → T → Bool) (eq : ID → ID → Bool)
       (queue2 : List ℕ) (keys2 : List T) (in_heads2 : T → Bool) (test2 : ID → Bool) (asked : ℕ) (y : T) (i : ID) → IsEqualityOfNodes w eqT → Apart eq
       → ((a : ℕ) → w.is_node a ≡ true → AreNodes w (w.graph a))
@@ -220,7 +220,7 @@ module _ {T ID : Type 0} (w : GraphModel T ID) where
                 (inr (subst (λ (l : List ℕ). Contains l (w.node y)) (sym grows) (Contains-push queue (w.node y))))
           ] refl
 
-  -- a node, all of whose neighbours were found, is no longer pending
+  -- a node, all of whose neighbors were found, is no longer pending
   pub holds_asked : {starts met : List ℕ} {rooted : Bool} {keys : List T} {in_heads : T → Bool} {test : ID → Bool} (queue : List ℕ) (rooted2 : Bool) (a : ℕ)
       → HoldsSearch starts met (a ∷ queue) rooted keys in_heads test → ((b : ℕ) → HasEdge w.graph a b → Contains met b) → (rooted2 ≡ false → (rooted ≡ false) × ((y : ℕ) × HasEdge w.graph a y))
       → HoldsSearch starts met queue rooted2 keys in_heads test
@@ -326,7 +326,7 @@ pub adds_one : {T : Type 0} (known : Bool) (old new : List T) (y : T) → (known
 adds_one {T} true old new y same more b h = inl (subst (λ (l : List T). Contains l b) (same refl) h)
 adds_one {T} false old new y same more b h = Contains-push_cases old y b (subst (λ (l : List T). Contains l b) (more refl) h)
 
--- a list of starts or neighbours with one more
+-- a list of starts or neighbors with one more
 pub adds_more : {T : Type 0} (first ys old new : List T) (y : T) → ((b : T) → Contains old b → Contains first b ⊎ Contains ys b) → ((b : T) → Contains new b → Contains old b ⊎ (y ≡ b))
     → (b : T) → Contains new b → Contains first b ⊎ Contains (ys ++ y ∷ []) b
 adds_more {T} first ys old new y before one b h =

@@ -1,4 +1,4 @@
--- In-degrees, while lists of neighbours become lists of indices.
+-- In-degrees, while lists of neighbors become lists of indices.
 use Rattle.std.proofs.Common.{◌≡◌, ℕ, ◌+◌, ◌<◌, cond, Option, None, Some, List, [], ◌∷◌, ◌++◌, length, map, get_or, set, take, refl, arith, eqb, ⊎_elim, append-nil}
 use Rattle.std.specs.List.{count_by, filter_map}
 use Rattle.std.proofs.lemmas.List.{map_push, take_more}

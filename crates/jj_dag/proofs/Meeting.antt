@@ -1,4 +1,4 @@
--- Heads after the neighbours of a list were removed one after the other.
+-- Heads after the neighbors of a list were removed one after the other.
 use Rattle.std.proofs.Common.{◌≡◌, ℕ, Bool, append_assoc, List, [], ◌∷◌, ◌++◌, refl, sym, ◌∙◌, ap, subst, arith, inl, ◌⊎◌, ⊎_elim, true}
 use Rattle.std.specs.Set.{is_member}
 use Rattle.std.specs.List.{Contains}
@@ -19,7 +19,7 @@ module _ {T ID : Type 0} {same : T → T → Bool} {eq : ID → ID → Bool} {is
   all_queued {queue2 = queue3} (more {xs = xs} {queue2 = queue2} {visited2 = visited2} x i before told did) b h =
       adds_more queue xs queue2 queue3 x (all_queued before) (adds_one (is_member eq visited2 i) queue2 queue3 x did.known did.new) b h
 
-  -- the neighbours of a pending node were found
+  -- the neighbors of a pending node were found
   pub all_met : (w : GraphModel T ID) (starts met : List ℕ) (rooted : Bool) (a : ℕ) (zs : List ℕ) {xs : List T} {heads2 : List T} {visited2 : List ID} {queue2 : List T}
       → IsEqualityOfNodes w same → ReturnsNodeIds w eq is_id → ((b : ℕ) → w.is_node b ≡ true → AreNodes w (w.graph b)) → VisitsNeighbors same eq is_id heads visited queue xs heads2 visited2 queue2
       → HoldsSearch w starts met (a ∷ numbers w queue) rooted heads (is_member same heads) (is_member eq visited) → numbers w xs ++ zs ≡ w.graph a

@@ -46,7 +46,7 @@ module _ {T ID : Type 0} (w : GraphModel T ID) {eq : ID → ID → Bool} {is_id 
   sets_marked {find} {pending = pending} {xs = xs} apart stand nobody unknown left right first second =
       all_right (map w.node xs) apart stand right (all_left apart stand left (starting_none w pending find nobody unknown) first) second
 
-  -- a node that was popped passed its sides to its neighbours
+  -- a node that was popped passed its sides to its neighbors
   pub all_handed : {find : ID → NodeState} {pending : List T} (set1 set2 : List ℕ) (m : ℕ → Sides) (a : ℕ) (known : Sides) (common : List (ID × T)) (rooted : Bool) (zs : List ℕ) {xs : List T} {find2 : ID → NodeState} {pending2 : List T}
       → Apart w eq → Stand w is_id → ((b : ℕ) → w.is_node b ≡ true → AreNodes w (w.graph b)) → RelaxesNodes eq is_id (propagated known) find pending xs find2 pending2 → w.is_node a ≡ true
       → HandsOn w set1 set2 m a known pending common rooted find [] → map w.node xs ++ zs ≡ w.graph a

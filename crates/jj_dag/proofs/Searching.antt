@@ -1,4 +1,4 @@
--- The search for the maximal nodes of a set: which nodes were found as neighbours, and which are
+-- The search for the maximal nodes of a set: which nodes were found as neighbors, and which are
 -- pending.
 use Rattle.std.proofs.Common.{◌≡◌, ℕ, zero, suc, Bool, true, false, cond, List, [], ◌∷◌, ◌++◌, refl, sym, subst, inl, inr, ◌⊎◌, ⊎_elim}
 use Rattle.std.specs.List.{Contains}
@@ -17,7 +17,7 @@ pub record IsSearching (g : Graph) (starts met queue : List ℕ) (rooted : Bool)
   -- a node that was found is strictly reached from a start
   pub reached : (b : ℕ) → Contains met b → (a : ℕ) × Contains starts a × StrictlyReaches g a b
   pub queued : (a : ℕ) → Contains queue a → Seen starts met a
-  -- the neighbours of a node that is not pending were found
+  -- the neighbors of a node that is not pending were found
   pub explored : (a : ℕ) → Seen starts met a → Contains queue a ⊎ ((b : ℕ) → HasEdge g a b → Contains met b)
   -- until a root comes, each node reaches a pending one
   pub leads : rooted ≡ false → IsAcyclicFrom g starts → (a : ℕ) → Seen starts met a → (z : ℕ) × Contains queue z × Reaches g a z
@@ -31,7 +31,7 @@ seen_before starts met y Waits known a (inl h) = inl (inl h)
 seen_before starts met y Waits known a (inr h) =
     ⊎_elim (λ old. inl (inr old)) (λ same. subst (λ (n : ℕ). Seen starts met n ⊎ Waits n) same known) (Contains-push_cases met y a h)
 
--- a neighbour of a pending node is found
+-- a neighbor of a pending node is found
 pub search_met : (g : Graph) (starts met queue queue2 : List ℕ) (rooted : Bool) (w y : ℕ) → IsSearching g starts met queue rooted → Contains queue w → HasEdge g w y
     → ((a : ℕ) → Contains queue a → Contains queue2 a) → ((a : ℕ) → Contains queue2 a → Contains queue a ⊎ (y ≡ a)) → Seen starts met y ⊎ Contains queue2 y
     → IsSearching g starts (met ++ y ∷ []) queue2 rooted
@@ -51,7 +51,7 @@ search_met g starts met queue queue2 rooted w y k at edge keeps adds known =
     lift a (inl h) = inl h
     lift a (inr h) = inr (Contains-append_left met (y ∷ []) a h)
 
--- a node, all of whose neighbours were found, is no longer pending
+-- a node, all of whose neighbors were found, is no longer pending
 pub search_asked : (g : Graph) (starts met queue queue2 : List ℕ) (rooted rooted2 : Bool) (w : ℕ) → IsSearching g starts met queue rooted → Contains queue w
     → ((a : ℕ) → Contains queue a → Contains queue2 a ⊎ (a ≡ w)) → ((a : ℕ) → Contains queue2 a → Contains queue a) → ((b : ℕ) → HasEdge g w b → Contains met b)
     → (rooted2 ≡ false → (rooted ≡ false) × ((y : ℕ) × HasEdge g w y))

@@ -1,4 +1,4 @@
--- The stack of a postorder walk: an entry is a node, and whether its neighbours are above it.
+-- The stack of a postorder walk: an entry is a node, and whether its neighbors are above it.
 use Rattle.std.proofs.Common.{◌≡◌, ℕ, Bool, true, false, cond, ◌||◌, ◌==◌, List, [], ◌∷◌, ◌++◌, map, reverse, refl, sym, ◌∙◌, ap, subst, true≢false, ⊎_elim, append-nil, arith, zero, suc}
 use Rattle.std.specs.List.{Contains}
 use Rattle.std.proofs.lemmas.Bool.Decides.{Decides-eqb}
@@ -75,7 +75,7 @@ finished_above ((x, true) ∷ top) a h =
     ] refl
 finished_above ((x, false) ∷ top) a h = Contains-append_right ((x, false) ∷ []) top (a, true) (finished_above top a h)
 
--- each entry is strictly reached from every entry below it whose neighbours were pushed above it
+-- each entry is strictly reached from every entry below it whose neighbors were pushed above it
 abbrev pub Hangs : Graph → List (ℕ × Bool) → Type 0
 Hangs g [] = Unit {0}
 Hangs g ((a, f) ∷ top) = ((c : ℕ) → Contains top (c, true) → StrictlyReaches g c a) × Hangs g top
@@ -163,7 +163,7 @@ module _ {T ID : Type 0} (w : GraphModel T ID) where
         rest = λ out p. k.rest out (passed (Contains-from_has yielded a seen) p);
       }
 
-  -- a node whose neighbours were walked is emitted
+  -- a node whose neighbors were walked is emitted
   pub unwinding_finished : {starts : List ℕ} {visiting emitted : ID → Bool} {top : List (ℕ × Bool)} {yielded : List ℕ} (eq : ID → ID → Bool) (visiting2 emitted2 : ID → Bool) (a : ℕ) (i : ID)
       → Apart eq → IsUnwinding starts visiting emitted ((a, true) ∷ top) yielded → w.id i ≡ a
       → ((q : ID) → visiting2 q ≡ cond (eq i q) false (visiting q)) → ((q : ID) → emitted2 q ≡ cond (eq i q) true (emitted q))
@@ -204,7 +204,7 @@ module _ {T ID : Type 0} (w : GraphModel T ID) where
           let P : Bool → Type 0 = λ t. b == a ≡ t → t ≡ false in
           elim (b == a) as P [ true ↦ λ e. absurd (true≢false (sym h ∙ subst (λ (m : ℕ). has (visited_above top) m ≡ false) (sym ((Decides-eqb b a).0 e)) k.fresh.0)) | false ↦ λ e. refl ] refl
 
-  -- a new node stays, below its neighbours
+  -- a new node stays, below its neighbors
   pub unwinding_entered : {starts : List ℕ} {visiting emitted : ID → Bool} {top : List (ℕ × Bool)} {yielded : List ℕ} (eq : ID → ID → Bool) (visiting2 : ID → Bool) (a : ℕ) (i : ID)
       → ((b : ℕ) → w.is_node b ≡ true → AreNodes w (w.graph b)) → Apart eq → IsUnwinding starts visiting emitted ((a, false) ∷ top) yielded → w.id i ≡ a
       → false ≡ emitted i → visiting i ≡ false → ((q : ID) → visiting2 q ≡ cond (eq i q) true (visiting q))

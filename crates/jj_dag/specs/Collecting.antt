@@ -1,4 +1,4 @@
--- Nodes that a walk collected, each with the ids of its neighbours.
+-- Nodes that a walk collected, each with the ids of its neighbors.
 -- Cited by contracts of public items: IsFilled, neighbor_indices.
 use Rattle.std.specs.Prelude.{◌≡◌, ℕ, ◌<◌, Bool, true, Option, Some, MatchOption, List, map, length, slice_index, ◌⊎◌}
 use Rattle.std.specs.declared.result.Result.TheVariants.{Err}
@@ -16,7 +16,7 @@ pub record IsFilled {T ID : Type 0} (eq : ID → ID → Bool) (found : IndexedGr
   pub ids : length found.neighbor_ids.items ≡ length visited
   pub indices : (i : ID) (k : ℕ) → get eq found.index_of i ≡ Some k → k < length visited
 
--- the indices of the neighbours of each node
+-- the indices of the neighbors of each node
 abbrev pub neighbor_indices : {T ID : Type 0} → (ID → ID → Bool) → IndexedGraph T ID → List (List ℕ)
 neighbor_indices eq found =
     map (λ v. filter_map (get eq found.index_of) v.items) found.neighbor_ids.items
@@ -33,7 +33,7 @@ module _ {T ID E : Type 0} (w : GraphModel T ID) (items : FallibleGraph E) where
       → MatchOption (find i) (Contains ns (w.id i) → ⊥)
       (λ k. (k < length ns) × (slice_index ns k ≡ w.id i))
 
-  -- `work` is pending, `visited` was visited, and `ids` has the ids of the neighbours of each
+  -- `work` is pending, `visited` was visited, and `ids` has the ids of the neighbors of each
   -- visited node
   pub record IsCollecting (starts : List ℕ) (find : ID → Option ℕ) (work visited : List T)
       (ids : List (List ID)) : Type 0 where

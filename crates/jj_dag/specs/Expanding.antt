@@ -42,13 +42,13 @@ module _ {T ID E F N U J : Type 0} (eq : ID → ID → Bool)
     pub implemented : (walk : GraphModel T ID) → (graph_at s.id_fn s.neighbors_fn).implements walk
         → (graph_at s.id_fn t.neighbors_fn).implements walk
 
-  -- these are the neighbours of the node
+  -- these are the neighbors of the node
   abbrev pub ListsNeighbors : Closures F N → T → Vec T Global → Type 0
   ListsNeighbors s node v = (walk : GraphModel T ID)
       → (graph_at s.id_fn s.neighbors_fn).implements walk → walk.is_node (walk.node node) ≡ true
       → map walk.node v.items ≡ walk.graph (walk.node node)
 
-  -- the neighbours of the node, or an error that may be returned for it
+  -- the neighbors of the node, or an error that may be returned for it
   pub record ListsNode (s t : Closures F N) (node : T) (r : Result (Vec T Global) (WalkError E))
       : Type 0 where
     pub graph : StillImplements s t
@@ -61,7 +61,7 @@ module _ {T ID E F N U J : Type 0} (eq : ID → ID → Bool)
       → (graph_at s.id_fn s.neighbors_fn).implements walk → AreNodes walk (map walk.node starts)
       → P walk (map walk.node starts)
 
-  -- the nodes that these reach were collected, with the ids of the neighbours of each
+  -- the nodes that these reach were collected, with the ids of the neighbors of each
   abbrev pub HasCollected : Closures F N → List T → IndexedGraph T ID → Type 0
   HasCollected s starts found = (filled : IsFilled eq found)
       × InModels s starts (λ walk nodes. IsCollecting walk (whole walk) nodes

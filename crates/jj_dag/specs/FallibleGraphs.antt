@@ -1,4 +1,4 @@
--- Graphs whose lists of neighbours may have failed items: an item is a node or an error.
+-- Graphs whose lists of neighbors may have failed items: an item is a node or an error.
 -- Cited by contracts of public items through ClosureGraph, Collecting, Expanding,
 -- jj_walks.DfsOkSteps, jj_walks.Expansions, store_walks.Histories.
 use Rattle.std.specs.Prelude.{◌≡◌, ℕ, ◌==◌, Bool, true, List, [], ◌∷◌, ◌++◌, map, reverse, Option, Result}

@@ -44,7 +44,7 @@ module _ {T ID : Type 0} (same : T → T → Bool) (eq : ID → ID → Bool) whe
         → IsStarted walk (map walk.node nodes) heads (is_member same heads)
         (is_member eq visited) (map walk.node queue)
 
-  -- the neighbour x of this id is no head, and is queued if its id is new
+  -- the neighbor x of this id is no head, and is queued if its id is new
   pub record VisitsNeighbor (x : T) (i : ID) (heads heads2 : List T)
       (visited visited2 : List ID) (queue queue2 : List T) : Type 0 where
     pub keys : (y : T) → Contains heads2 y → Contains heads y
@@ -53,7 +53,7 @@ module _ {T ID : Type 0} (same : T → T → Bool) (eq : ID → ID → Bool) whe
     pub known : is_member eq visited i ≡ true → queue2 ≡ queue
     pub new : is_member eq visited i ≡ false → queue2 ≡ queue ++ x ∷ []
 
-  -- the neighbours of a list, with these ids, were visited one after the other
+  -- the neighbors of a list, with these ids, were visited one after the other
   pub data VisitsNeighbors (is_id : T → ID → Type 0) (heads : List T) (visited : List ID)
       (queue : List T) : List T → List T → List ID → List T → Type 0 where
     none : VisitsNeighbors is_id heads visited queue [] heads visited queue
@@ -63,7 +63,7 @@ module _ {T ID : Type 0} (same : T → T → Bool) (eq : ID → ID → Bool) whe
         → VisitsNeighbor x i heads2 heads3 visited2 visited3 queue2 queue3
         → VisitsNeighbors is_id heads visited queue (xs ++ x ∷ []) heads3 visited3 queue3
 
-  -- the neighbours that an iterator of this value yields were visited, and `empty` is whether there
+  -- the neighbors that an iterator of this value yields were visited, and `empty` is whether there
   -- was none
   pub record VisitsAll {E U I : Type 0} (is_id : T → ID → Type 0) (becomes : U → I → Type 0)
       (steps : I → Option (Result T E) → I → Type 0) (value : U) (heads heads2 : List T)

@@ -4,7 +4,7 @@
 use Rattle.std.specs.Prelude.{◌≡◌, ◌≢◌, ◌↔◌, ℕ, zero, suc, List, ◌∷◌, ◌++◌, AllPairs}
 use Rattle.std.specs.List.{Contains}
 
--- each node's neighbours, in their order
+-- each node's neighbors, in their order
 abbrev pub NodeGraph : Type 0 → Type 0
 NodeGraph A = A → List A
 

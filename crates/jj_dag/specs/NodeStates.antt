@@ -35,7 +35,7 @@ union_of_sides known added = record {
 abbrev pub adds_side : Sides → Sides → Bool
 adds_side known added = (added.left && not known.left) || (added.right && not known.right)
 
--- the sides that a node passes to its neighbours
+-- the sides that a node passes to its neighbors
 abbrev pub propagated : Sides → Sides
 propagated known = record {
   left = known.left;

@@ -53,7 +53,7 @@ impl Sides {
         self.left && self.right
     }
 
-    // Returns the sides that a node passes to its neighbours: those of a common node are below it.
+    // Returns the sides that a node passes to its neighbors: those of a common node are below it.
     fn propagated(self) -> Sides
         ensures { result ≡ propagated self }
     {
@@ -211,7 +211,7 @@ fn closest<T: Drop, ID: Hash + Eq + Drop, M: NodeMap<ID, NodeState>>(
 
 /// Returns the nodes that both sets reach and that no other such node reaches, each once. The
 /// greatest pending node is expanded next, at most once for one set and once for both; the search
-/// ends early if one node is pending, both sets reach it, and no root (a node without neighbours)
+/// ends early if one node is pending, both sets reach it, and no root (a node without neighbors)
 /// was found. Fails with `Node` of the error of the first list that failed, and with `Memory` if
 /// memory runs out. Takes `O(n log n + e)` for n nodes and e edges.
 pub fn closest_common_nodes<T: Ord + Drop, ID: Hash + Eq + Drop, E: Drop, II1, II2, NI, F, N>(
@@ -313,7 +313,7 @@ where
     Ok(empty)
 }
 
-// Adds to the state of each neighbour of a node. Returns whether there is none.
+// Adds to the state of each neighbor of a node. Returns whether there is none.
 fn relax_neighbors<T: Ord + Drop, ID: Eq + Drop, E: Drop, M, NI, F, N>(
     known: &mut M,
     pending: &mut BinaryHeap<T>,

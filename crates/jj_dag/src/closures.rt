@@ -36,7 +36,7 @@ pub fn ids_of<T, ID: Drop, F: Fn(&T) -> Result<ID, AllocError>>(
 }
 
 impl<F, N> Closures<F, N> {
-    /// Returns the neighbours of a node. Fails with `Node` of the error of the first item that
+    /// Returns the neighbors of a node. Fails with `Node` of the error of the first item that
     /// failed, and with `Memory` if memory runs out.
     pub fn neighbors<T: Drop, ID: Hash + Eq + Drop, E: Drop, NI>(
         &mut self,
@@ -56,7 +56,7 @@ impl<F, N> Closures<F, N> {
     }
 
     /// Returns all nodes that the starts reach, in the order of visits: the last start and the last
-    /// neighbour first. Fails with `Node` of the error of the first item that failed, and with
+    /// neighbor first. Fails with `Node` of the error of the first item that failed, and with
     /// `Memory` if memory runs out.
     pub fn collect<T: Drop, ID: Hash + Eq + Drop, E: Drop, NI>(
         &mut self,

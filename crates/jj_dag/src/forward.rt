@@ -40,8 +40,8 @@ impl<X: Drop, T, E> From<AllocFailed<X>> for Stop<T, E> {
     }
 }
 
-/// Returns the nodes that the starts reach, each once and after its neighbours; later starts and
-/// later neighbours come first. Stops at the first failed item and at the first cycle. The sets,
+/// Returns the nodes that the starts reach, each once and after its neighbors; later starts and
+/// later neighbors come first. Stops at the first failed item and at the first cycle. The sets,
 /// which must be empty, get the ids of the nodes on the path and of the nodes in the order.
 pub fn walk_forward<T: Drop, ID: Eq + Clone + Drop, E: Drop, V, II, NI, F, N>(
     alloc: Global,
@@ -100,7 +100,7 @@ where
     Ok(())
 }
 
-// Appends a node, all of whose neighbours were emitted, to the order.
+// Appends a node, all of whose neighbors were emitted, to the order.
 fn finish<T: Drop, ID: Eq + Drop, V: NodeSet<ID>>(
     visiting: &mut V,
     emitted: &mut V,
@@ -122,7 +122,7 @@ fn finish<T: Drop, ID: Eq + Drop, V: NodeSet<ID>>(
     Ok(())
 }
 
-// Pushes a node, and its neighbours above it, unless it is being visited: then it is on a cycle.
+// Pushes a node, and its neighbors above it, unless it is being visited: then it is on a cycle.
 fn enter<T: Drop, ID: Eq + Clone + Drop, E: Drop, V, NI, N>(
     stack: &mut Vec<(T, bool)>,
     visiting: &mut V,

@@ -19,9 +19,9 @@ use std::collections::{BinaryHeap, HashMap};
 use std::hash::Hash;
 use std::mem;
 
-/// Returns the nodes that the starts reach, each before its neighbours; the next node is always the
+/// Returns the nodes that the starts reach, each before its neighbors; the next node is always the
 /// greatest whose children all came before. Fails with `Node` of the error of a failed start or
-/// neighbour, with `Node` of `cycle_fn` of some node that the starts reach if they reach a cycle,
+/// neighbor, with `Node` of `cycle_fn` of some node that the starts reach if they reach a cycle,
 /// and with `Memory` if memory runs out. Takes `O(n log n + e)` for n nodes and e edges.
 pub fn topo_order_reverse_ord<T: Ord + Drop, ID: Hash + Eq + Drop, E: Drop, II, NI, F, N, C>(
     alloc: Global,
@@ -86,7 +86,7 @@ fn make_ready<T: Ord + Drop>(
 }
 
 /// Adjacency lists of ids: the nodes that a walk visited, in that order, and the ids of the
-/// neighbours of each.
+/// neighbors of each.
 #[derive(Drop)]
 pub struct IndexedGraph<T, ID: Hash + Eq> {
     pub nodes: Vec<Option<T>>,
@@ -108,7 +108,7 @@ impl<T: Drop, ID: Hash + Eq + Drop> IndexedGraph<T, ID> {
         }
     }
 
-    /// Appends a node with its id and the ids of its neighbours. Fails if memory runs out.
+    /// Appends a node with its id and the ids of its neighbors. Fails if memory runs out.
     pub fn add_node(&mut self, node: T, id: ID, neighbor_ids: Vec<ID>) -> Result<(), AllocError>
         ensures nodes { OnOk result (self.new.nodes.items
             ≡ self.old.nodes.items ++ Some node ∷ []) }
@@ -143,7 +143,7 @@ impl<T: Ord + Drop, ID: Hash + Eq + Drop> IndexedGraph<T, ID> {
     }
 }
 
-// Returns the indices of the neighbours of each node, and the in-degree of each index.
+// Returns the indices of the neighbors of each node, and the in-degree of each index.
 fn link<ID: Hash + Eq + Drop>(
     alloc: Global,
     index_of: &HashMap<ID, usize>,

@@ -1,4 +1,4 @@
-//! An iterator adapter for lists of neighbours that may fail as a whole.
+//! An iterator adapter for lists of neighbors that may fail as a whole.
 ghost use Rattle.jj_dag.specs.ListOrError.{IteratesOver};
 
 /// Iterates over the items of a list, each in an `Ok`, or yields one error.

@@ -21,7 +21,7 @@ use std::convert::Infallible;
 use std::hash::Hash;
 use std::marker::PhantomData;
 
-/// Removes a neighbour from the heads, and makes it pending if its id is new.
+/// Removes a neighbor from the heads, and makes it pending if its id is new.
 pub fn visit_neighbor<T: Eq + Drop, ID: Eq + Drop, H: NodeSet<T>, V: NodeSet<ID>>(
     heads: &mut H,
     visited: &mut V,
@@ -67,7 +67,7 @@ pub fn pop_in_level<T>(queue: &mut VecDeque<T>, level: &mut usize, root_met: boo
 }
 
 /// Returns the nodes of `start` that no other of them reaches. The search ends early after a level
-/// if one node is pending and no root (a node without neighbours) was found. Fails if memory runs
+/// if one node is pending and no root (a node without neighbors) was found. Fails if memory runs
 /// out. Takes `O(n + e)` for n nodes and e edges.
 pub fn heads<T: Hash + Eq + Clone + Drop, ID: Hash + Eq + Drop, II, NI, F, N>(
     alloc: Global,
@@ -276,7 +276,7 @@ where
     Ok(())
 }
 
-// Removes each neighbour of a node from the heads. Returns whether there is none.
+// Removes each neighbor of a node from the heads. Returns whether there is none.
 fn visit_neighbors<T: Eq + Drop, ID: Eq + Drop, E: Drop, H, V, NI, F, N>(
     heads: &mut H,
     visited: &mut V,
@@ -320,7 +320,7 @@ where
     Ok(empty)
 }
 
-// Expands the pending nodes, level by level, and removes their neighbours from the heads.
+// Expands the pending nodes, level by level, and removes their neighbors from the heads.
 fn expand_all<T: Eq + Drop, ID: Eq + Drop, E: Drop, H, V, NI, F, N>(
     heads: &mut H,
     visited: &mut V,

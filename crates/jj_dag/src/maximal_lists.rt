@@ -1,4 +1,4 @@
-//! Heads where a list of neighbours may fail as a whole.
+//! Heads where a list of neighbors may fail as a whole.
 ghost use Rattle.std.specs.Prelude.{IfOk, Result, IsTrue};
 ghost use Rattle.jj_dag.specs.ClosureGraph.{InEachModel, IsInputError, graph_of_lists, list_of};
 ghost use Rattle.jj_dag.specs.Found.{AreHeads};

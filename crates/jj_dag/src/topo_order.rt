@@ -15,8 +15,8 @@ use std::convert::Infallible;
 use std::hash::Hash;
 use std::marker::PhantomData;
 
-/// Returns the nodes that the starts reach, each once and after its neighbours; later starts and
-/// later neighbours come first. Fails with `Node(cycle_fn(node))` of some node on a cycle if one is
+/// Returns the nodes that the starts reach, each once and after its neighbors; later starts and
+/// later neighbors come first. Fails with `Node(cycle_fn(node))` of some node on a cycle if one is
 /// reached, and with `Memory` if memory runs out. Calls `neighbors_fn` once for each node, and
 /// takes `O(n + e)` for n nodes and e edges.
 pub fn topo_order_forward<T: Drop, ID: Hash + Eq + Clone + Drop, E, II, NI, F, N, C>(
@@ -116,7 +116,7 @@ where
     }
 }
 
-/// Returns the nodes that the starts reach, each once and before its neighbours: the reverse of
+/// Returns the nodes that the starts reach, each once and before its neighbors: the reverse of
 /// `topo_order_forward`, with its errors.
 pub fn topo_order_reverse<T: Drop, ID: Hash + Eq + Clone + Drop, E, II, NI, F, N, C>(
     alloc: Global,
@@ -149,8 +149,8 @@ where
     Ok(order)
 }
 
-/// Returns the nodes that the starts reach, each once and after its neighbours; later starts and
-/// later neighbours come first. Fails with `Node` of the error of the first item that failed, with
+/// Returns the nodes that the starts reach, each once and after its neighbors; later starts and
+/// later neighbors come first. Fails with `Node` of the error of the first item that failed, with
 /// `Node(cycle_fn(node))` of some node on a cycle if one is reached before, and with `Memory` if
 /// memory runs out. Takes `O(n + e)` for n nodes and e edges.
 pub fn topo_order_forward_ok<T: Drop, ID: Hash + Eq + Clone + Drop, E: Drop, II, NI, F, N, C>(
@@ -201,7 +201,7 @@ where
     }
 }
 
-/// Returns the nodes that the starts reach, each once and before its neighbours: the reverse of
+/// Returns the nodes that the starts reach, each once and before its neighbors: the reverse of
 /// `topo_order_forward_ok`, with its errors.
 pub fn topo_order_reverse_ok<T: Drop, ID: Hash + Eq + Clone + Drop, E: Drop, II, NI, F, N, C>(
     alloc: Global,

@@ -77,7 +77,7 @@ number_eq x y =
 -- ---- closures without state
 
 -- Closures implement a model if each complete list that `neighbors_fn` returns for a node has the
--- node's neighbours.
+-- node's neighbors.
 pub implements_by : {T ID F N R : Type 0} (g : GraphModel T ID) (eq : ID → ID → Bool) (ids : Shared F (Bor T × Unit {0}) (Result ID AllocError)) (lists : Mut N (Bor T × Unit {0}) R) (yields : R → List T → Type 0) (id_fn : F) (neighbors_fn : N)
     → ((a : ℕ) → g.is_node a ≡ true → AreNodes g (g.graph a))
     → ((i j : ID) → g.is_node (g.id i) ≡ true → g.is_node (g.id j) ≡ true → eq i j ≡ (g.id i == g.id j))

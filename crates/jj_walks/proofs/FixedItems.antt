@@ -21,7 +21,7 @@ use Rattle.jj_walks.proofs.Preorders.{FalliblePreorder-closed, FalliblePreorder-
 module _ {T ID E F N R : Type 0} (eq : ID → ID → Bool) (ids : Shared F (Bor T × Unit {0}) (Result ID AllocError)) (lists : Mut N (Bor T × Unit {0}) R) (yields : R → List (Result T E) → Type 0) (id_fn : F) (neighbors_fn : N)
     (g : GraphModel T ID) (items : FallibleGraph E) where
   -- The items of each node, by numbers, are those of a graph, and the nodes among them are the
-  -- node's neighbours.
+  -- node's neighbors.
   pub record ListsItems : Type 0 where
     pub closed : (a : ℕ) → g.is_node a ≡ true → AreNodes g (g.graph a)
     pub apart : (i j : ID) → g.is_node (g.id i) ≡ true → g.is_node (g.id j) ≡ true → eq i j ≡ (g.id i == g.id j)

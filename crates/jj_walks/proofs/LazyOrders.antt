@@ -89,7 +89,7 @@ leads_more g starts order left chunk left2 leads stretch = record {
       (λ new. stretch.above a b new r) (Contains-append_cases order chunk a h);
 }
 
--- a chunk of one node leaves its neighbours
+-- a chunk of one node leaves its neighbors
 pub one_stretch : (g : Graph) (a : ℕ) → IsChunkOfAnyGraph g (a ∷ []) (a ∷ []) (g a)
 one_stretch g a = record {
   once = one_distinct a;

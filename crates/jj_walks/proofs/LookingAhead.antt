@@ -144,7 +144,7 @@ module _ {T ID K : Type 0} (w : GraphModel T ID) (items : FallibleGraph K) where
     ] refl;
   })
 
--- a node whose list of ids is not empty has a neighbour
+-- a node whose list of ids is not empty has a neighbor
 pub some_edge : {T ID : Type 0} (node : T → ℕ) (id : ID → ℕ) (new_ids : List ID) (below : List T) (neighbors : List ℕ) (n : ℕ) → map id new_ids ≡ map node below → map node below ≡ neighbors
     → n ≡ length new_ids → (n == 0) ≡ false → (c : ℕ) × Contains neighbors c
 some_edge node id [] below neighbors n same listed size full = absurd (true≢false (sym (ap (λ m. m == 0) size) ∙ full))

@@ -44,7 +44,7 @@ module _ {T ID E F N R : Type 0} (g : GraphModel T ID) (eq : ID → ID → Bool)
     (ids : Shared F (Bor T × Unit {0}) (Result ID AllocError)) (lists : Mut N (Bor T × Unit {0}) R)
     (yields : R → List (Result T E) → Type 0) where
   -- The closures implement the model, and each node that `neighbors_fn` lists beside failed items
-  -- is a neighbour too.
+  -- is a neighbor too.
   pub record ImplementsItems (id_fn : F) (neighbors_fn : N) : Type 0 where
     pub complete : Implements g eq ids lists (λ r xs. yields r (map Ok xs)) id_fn neighbors_fn
     pub partial : AlwaysReturns lists (λ a r. (xs : List (Result T E)) (x : T)

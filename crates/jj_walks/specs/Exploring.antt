@@ -31,7 +31,7 @@ module _ {T ID E F N U J : Type 0} (eq : ID → ID → Bool)
       × InModels eq ids lists value items s starts
       (λ walk nodes. ReachedFrom walk.graph nodes (walk.node x))
 
-  -- the explored nodes, with the ids of the neighbours of each, and at most one frontier node
+  -- the explored nodes, with the ids of the neighbors of each, and at most one frontier node
   abbrev pub HasExplored : Closures F N → List T → IndexedGraph T ID × Vec T Global → Type 0
   HasExplored s starts r = (filled : IsFilled eq r.0)
       × (filled.visited ≡ [] → r.1.items ≡ []) × (length r.1.items ≤ 1)

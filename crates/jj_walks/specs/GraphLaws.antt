@@ -37,7 +37,7 @@ use Rattle.jj_walks.specs.LazySteps.{StartsOrder, Steps as LazySteps}
 
 module _ {T ID E : Type 0} (g : GraphModel T ID) where
   -- The closures define the graph: they implement it, and fail for no node that the starts reach.
-  -- So each list that is returned for such a node is that of its neighbours.
+  -- So each list that is returned for such a node is that of its neighbors.
   pub record DefinesGraph (graph : ClosureGraph T ID E) (starts : List ℕ) : Type 0 where
     pub implements : graph.implements g
     pub never_fails : (x : T) (e : E) → ReachedFrom g.graph starts (g.node x) → graph.fails x e → ⊥

@@ -69,7 +69,7 @@ module _ {T ID E F N C U J : Type 0} (eq : ID → ID → Bool)
         → AreNodes w (map w.node starts) → IsLeftIn w eq (map w.node starts) yielded s
 
   module _ (cycles : Mut C (T × Unit {0}) E) where
-    -- the closures may always be called, and each list of neighbours is finite
+    -- the closures may always be called, and each list of neighbors is finite
     pub record CanGo (s : LazyOrder T ID E F N C) : Type 0 where
       pub graph : IsWalkable ids lists
           (IsFiniteIterable value.into_iter_gives items.can_next items.remaining) s.graph.id_fn

@@ -12,7 +12,7 @@ abbrev pub copies : {T : Type 0} → (T → ℕ) → List T → ℕ → ℕ
 copies node xs a = sum_by (λ x. cond (node x == a) 1 0) xs
 
 module _ {T ID K : Type 0} (w : GraphModel T ID) (items : FallibleGraph K) where
-  -- `work` is pending and `visited` explored; a start that is a neighbour of an explored node, and
+  -- `work` is pending and `visited` explored; a start that is a neighbor of an explored node, and
   -- is not explored, is pending twice
   pub record IsLooking (starts : List ℕ) (find : ID → Option ℕ) (root_met : Bool)
       (work visited : List T) (ids : List (List ID)) : Type 0 where

@@ -1,4 +1,4 @@
-//! Walks over a directed graph that two closures implement: the id and the neighbours of a node.
+//! Walks over a directed graph that two closures implement: the id and the neighbors of a node.
 pub use crate::depth_first::{DepthFirst, DepthFirstOk, dfs, dfs_ok};
 pub use crate::walk_items::collect_dfs_ok;
 pub use jj_dag::dag_walk::{

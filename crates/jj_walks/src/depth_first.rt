@@ -62,7 +62,7 @@ where
 }
 
 /// Returns an iterator over the nodes that `start` reaches, in depth-first preorder; later starts
-/// and later neighbours come first. An error of the iterator is that memory ran out, and its last
+/// and later neighbors come first. An error of the iterator is that memory ran out, and its last
 /// item. Takes `O(n + e)` in all for n nodes and e edges. Fails if memory runs out while the starts
 /// are collected.
 pub fn dfs<T: Drop, ID: Hash + Eq + Drop, II, NI, F, N>(

@@ -1,4 +1,4 @@
-//! Lazily produced topological order, each node before its neighbours, as an iterator over chunks.
+//! Lazily produced topological order, each node before its neighbors, as an iterator over chunks.
 ghost use Rattle.std.specs.Prelude.{IfOk};
 ghost use Rattle.std.specs.Iterator.{at_most};
 ghost use Rattle.jj_dag.specs.ClosureGraph.{graph_of_items, list_of_items};
@@ -50,9 +50,9 @@ where
     }
 }
 
-/// Returns an iterator over the nodes that the starts reach, each before its neighbours. While
+/// Returns an iterator over the nodes that the starts reach, each before its neighbors. While
 /// several nodes are left, the greatest is expanded, until only one is left, which all expanded
-/// nodes reach. Its last item is an error where a start or a neighbour failed (`Node` of the
+/// nodes reach. Its last item is an error where a start or a neighbor failed (`Node` of the
 /// error), a cycle is reachable (`Node` of `cycle_fn` of some reachable node) or memory ran out
 /// (`Memory`). Fails if memory runs out while the starts are collected.
 pub fn topo_order_reverse_lazy<T: Ord + Drop, ID: Hash + Eq + Drop, E: Drop, II, NI, F, N, C>(

@@ -99,7 +99,7 @@ module _ (lists : List (Vec ℕ Global)) where
   error_in : (ns : List ℕ) (n : ℕ) → Contains ns n → length lists ≤ n → Contains (map (checked lists) ns) (Err n)
   error_in ns n h beyond = subst (λ (y : Result ℕ ℕ). Contains (map (checked lists) ns) y) (error_of n beyond) (in_map (checked lists) ns n h)
 
-  -- only a number with a list has neighbours
+  -- only a number with a list has neighbors
   within : (xs : List (Vec ℕ Global)) (n b : ℕ) → Contains (graph_of xs n) b → n < length xs
   within [] n b h = absurd (nothing b h)
   within (v ∷ xs) zero b h = omega arith
@@ -155,7 +155,7 @@ module _ (lists : List (Vec ℕ Global)) where
     implements_lists ids id_fn same_id =
         implements_numbers graph ids neighbor_lists (λ r xs. yields r (map (λ x. Ok x) xs)) id_fn neighbors_fn same_id (λ a r f h. let k = listed a r f h in (λ xs d. whole_nodes (graph a.0.now) r k.0 xs d, k.1))
 
-    -- an error for a node is one of its neighbours, without a list
+    -- an error for a node is one of its neighbors, without a list
     pub failed_below : (x e : ℕ) → (r : Nodes) × MayReturn neighbor_lists neighbors_fn x r × FailsAfterNodes becomes (YieldsFirst nodes_left) r e → HasEdge graph x e × (length lists ≤ e)
     failed_below x e (r, may, fails) = failed_in (graph x) r (may_return_says neighbor_lists (λ n s. nodes_left s ≡ items n) (always_returns_same neighbor_lists _ neighbors_fn listed) may) e fails
 

@@ -86,7 +86,7 @@ module _ (commits : List Commit) where
   of_error : (ids : List ℕ) (id : ℕ) → Contains ids id → commit_with commits id ≡ None → Contains (map number_item ids) (Err id)
   of_error ids id h none = subst (λ (y : Result ℕ ℕ). Contains (map number_item ids) y) (ap (numbered id) none) (in_map number_item ids id h)
 
-  -- the nodes among the items are the neighbours
+  -- the nodes among the items are the neighbors
   same_nodes : (n : ℕ) → ok_items (items n) ≡ parent_graph commits n
   same_nodes n = by_lookup (commit_with commits n)
     where

@@ -1,4 +1,4 @@
--- Graphs as adjacency lists: the neighbours of a node are the list at its index.
+-- Graphs as adjacency lists: the neighbors of a node are the list at its index.
 -- Cited by contracts of public items: AreReachable, graph_of, nodes_left.
 use Rattle.std.specs.Prelude.{◌≡◌, ◌↔◌, ◌<◌, ◌≤◌, ℕ, List, [], None, Some, Result, length, map, eqb, slice_get, ltb, if◌then◌else◌}
 use Rattle.std.specs.declared.result.Result.TheVariants.{Ok, Err}
@@ -9,7 +9,7 @@ use Rattle.jj_dag.specs.FallibleGraphs.{ok_items}
 use Rattle.jj_dag.specs.Graph.{Graph, ReachedFrom}
 use Rattle.jj_walks_tests.specs.declared.lookups.Nodes.{Nodes}
 
--- the graph of the lists: a number without a list has no neighbour
+-- the graph of the lists: a number without a list has no neighbor
 abbrev pub graph_of : List (Vec ℕ Global) → Graph
 graph_of lists n = elim (slice_get lists n) [ Some v ↦ v.items | None ↦ [] ]
 

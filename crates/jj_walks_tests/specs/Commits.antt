@@ -24,7 +24,7 @@ parents_in commits c = filter_map (commit_with commits) c.parents.items
 abbrev pub known_ids : List Commit → List ℕ → List ℕ
 known_ids commits ids = ids_of (filter_map (commit_with commits) ids)
 
--- the graph of the ids: a commit's neighbours are its parents in the list
+-- the graph of the ids: a commit's neighbors are its parents in the list
 abbrev pub parent_graph : List Commit → Graph
 parent_graph commits id = elim (commit_with commits id)
     [ None ↦ [] | Some c ↦ ids_of (parents_in commits c) ]

@@ -1,4 +1,4 @@
-//! Proved callers over adjacency lists: the neighbours of node `n` are `graph[n]`.
+//! Proved callers over adjacency lists: the neighbors of node `n` are `graph[n]`.
 ghost use Rattle.std.specs.Prelude.{◌≡◌, ◌≤◌, ◌⊎◌, IfOk, length};
 ghost use Rattle.jj_dag.specs.CommonNodes.{AreClosestCommon, HasNoCommonCycle};
 ghost use Rattle.jj_dag.specs.Graph.{AreMaximalElements, IsAcyclicFrom, IsGreatestTopologicalOrder, ReachedFrom, ReachesCycle};
@@ -12,7 +12,7 @@ use std::alloc::{AllocError, Global};
 use std::collections::HashSet;
 use std::convert::Infallible;
 
-// Returns the neighbours of a node; a number without a list has none.
+// Returns the neighbors of a node; a number without a list has none.
 fn neighbors(graph: &[Vec<usize>], node: usize) -> &[usize]
     ensures { result.now ≡ graph_of graph.now node }
 {

@@ -8,7 +8,7 @@ use jj_walks::dag_walk::dfs;
 use std::alloc::{AllocError, Global};
 use std::collections::HashMap;
 
-// The neighbours that the map lists, none where it has no entry.
+// The neighbors that the map lists, none where it has no entry.
 fn listed(graph: &HashMap<u64, Vec<u64>>, id: u64) -> &[u64]
     ensures { result.now ≡ neighbors_in graph.now id }
 {

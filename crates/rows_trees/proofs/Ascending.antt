@@ -1,4 +1,4 @@
--- Entries whose neighbours ascend are sorted.
+-- Entries whose neighbors ascend are sorted.
 use Rattle.std.proofs.Common.{◌≡◌, ◌&&◌, ◌<◌, ℕ, suc, Bool, true, false, List, [], ◌∷◌, length, get_or, refl, ap, sym, true≢false, arith}
 use Rattle.std.specs.FinMap.{is_sorted}
 use Rattle.std.specs.FinMap.Entries.{below_all}

@@ -11,7 +11,7 @@ pub type Item = Result<char, char>;
 /// The nodes of a walk, or its error.
 pub type Order = Result<Vec<char>, WalkError<char>>;
 
-/// Returns the neighbours of a node as a string.
+/// Returns the neighbors of a node as a string.
 pub fn neighbors<'a>(graph: &'a str, node: char) -> &'a str {
     for line in graph.split(' ') {
         if let Some((name, list)) = line.split_once(':') {
@@ -23,7 +23,7 @@ pub fn neighbors<'a>(graph: &'a str, node: char) -> &'a str {
     ""
 }
 
-/// Returns the neighbours of a node; fails with the node if its list begins with `!`.
+/// Returns the neighbors of a node; fails with the node if its list begins with `!`.
 pub fn neighbors_or_error<'a>(graph: &'a str, node: char) -> Result<Chars<'a>, char> {
     let list = neighbors(graph, node);
     if list.starts_with('!') {

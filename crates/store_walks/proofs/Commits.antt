@@ -123,7 +123,7 @@ module _ (may_fail : BackendError → Type 0) (store : Objects) where
   abbrev pub ReadsAll : List (List ℕ) → Result (Vec ReadCommit Global) BackendError → Type 0
   ReadsAll ids r = IfOk r (λ v. map id_of v.items ≡ ids) × IfOk r (λ v. All (IsStored store) v.items) × IfErr r (IsErrorOfIds may_fail store ids)
 
-  -- the stored parents of a node are its neighbours
+  -- the stored parents of a node are its neighbors
   pub listed_commits : (parents : Parents) → Completes store parents → (c : ReadCommit) → not (node_of c == 0) ≡ true → (xs : List ReadCommit)
       → map id_of xs ≡ c.commit.parents → All (IsStored store) xs → map node_of xs ≡ id_graph parents (node_of c)
   listed_commits parents complete c here xs ids stored =

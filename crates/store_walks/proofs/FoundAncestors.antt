@@ -100,7 +100,7 @@ module _ (may_fail : BackendError → Type 0) (store : Objects) where
         let q : AreReads may_fail store c.commit.parents (map (λ x. Ok x) xs) = subst (λ (l : List Item). AreReads may_fail store c.commit.parents l) (sym (drained r (map (λ x. Ok x) xs) d)) k in
         listed_commits may_fail store parents complete c here xs (reads_whole may_fail store c.commit.parents xs q) (reads_stored may_fail store c.commit.parents xs q)
 
-    -- a parent that was read is a neighbour
+    -- a parent that was read is a neighbor
     listed_parent : (parents : Parents) → Completes store parents → (c : ReadCommit) → not (node c == 0) ≡ true → (items : List Item) → AreReads may_fail store c.commit.parents items
         → (x : ReadCommit) → Contains items (Ok x) → Contains (id_graph parents (node c)) (node x)
     listed_parent parents complete c here items k x at =
