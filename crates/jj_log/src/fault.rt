@@ -95,7 +95,7 @@ impl Error for Fault {}
 impl From<AllocError> for Fault {
     ghost from_gives = { λ _ error. error ≡ Fault.Memory };
 
-    fn from(_refused: AllocError) -> Self {
+    fn from(_error: AllocError) -> Self {
         Fault::Memory
     }
 }
@@ -103,7 +103,7 @@ impl From<AllocError> for Fault {
 impl<T: Drop> From<AllocFailed<T>> for Fault {
     ghost from_gives = { λ _ error. error ≡ Fault.Memory };
 
-    fn from(_refused: AllocFailed<T>) -> Self {
+    fn from(_error: AllocFailed<T>) -> Self {
         Fault::Memory
     }
 }
@@ -111,7 +111,7 @@ impl<T: Drop> From<AllocFailed<T>> for Fault {
 impl From<AllocError> for LogError {
     ghost from_gives = { λ _ error. error ≡ LogError.Memory };
 
-    fn from(_refused: AllocError) -> Self {
+    fn from(_error: AllocError) -> Self {
         LogError::Memory
     }
 }
@@ -119,7 +119,7 @@ impl From<AllocError> for LogError {
 impl<T: Drop> From<AllocFailed<T>> for LogError {
     ghost from_gives = { λ _ error. error ≡ LogError.Memory };
 
-    fn from(_refused: AllocFailed<T>) -> Self {
+    fn from(_error: AllocFailed<T>) -> Self {
         LogError::Memory
     }
 }

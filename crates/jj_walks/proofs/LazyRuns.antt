@@ -37,8 +37,8 @@ module _ {T ID E F N C U J : Type 0} (eq : ID → ID → Bool) (ids : Shared F (
       last.yields after.0 id_fn neighbors_fn on_cycle starts xs after.1
 
   -- the error of another run has a cause
-  pub IsCause-from_yields : (xs : List T) (refused : WalkError E) (s t u : TopoOrderReverseLazy T ID E F N C) → s.has_ended ≡ false → IsLeftOf eq ids lists value items id_fn neighbors_fn on_cycle starts [] s.order
-      → Yields (Steps eq ids lists value items cycles) s (map (λ x. Ok x) xs) t → Steps eq ids lists value items cycles t (Some (Err refused)) u → IfNode refused (IsCause eq ids lists value items cycles id_fn neighbors_fn on_cycle starts)
-  IsCause-from_yields xs refused s t u on k run last =
+  pub IsCause-from_yields : (xs : List T) (failure : WalkError E) (s t u : TopoOrderReverseLazy T ID E F N C) → s.has_ended ≡ false → IsLeftOf eq ids lists value items id_fn neighbors_fn on_cycle starts [] s.order
+      → Yields (Steps eq ids lists value items cycles) s (map (λ x. Ok x) xs) t → Steps eq ids lists value items cycles t (Some (Err failure)) u → IfNode failure (IsCause eq ids lists value items cycles id_fn neighbors_fn on_cycle starts)
+  IsCause-from_yields xs failure s t u on k run last =
       let after = left_after xs [] s t on k run in
       last.yields after.0 id_fn neighbors_fn on_cycle starts xs after.1

@@ -175,29 +175,29 @@ module _ {T E ID F P N U S : Type 0} (finds : Shared P (Result T E × Unit {0}) 
       → (s.work.items ≡ [] → IsNone r)
       → IfNone r (Passes finds ids eq node_of s.id_fn s.visited s.work.items [] × (t.work.items ≡ []) × (t.visited ≡ s.visited) × (t.neighbors_fn ≡ s.neighbors_fn))
       → IfSome r (λ item. IfOk item (λ node. Enters finds ids eq node_of s.id_fn s.visited lists becomes steps s.work.items s.neighbors_fn node t.work.items t.visited t.neighbors_fn))
-      → IfSome r (λ item. IfErr item (λ refused. IfNode refused (λ error.
+      → IfSome r (λ item. IfErr item (λ failure. IfNode failure (λ error.
       Fails finds ids eq node_of s.id_fn s.visited s.work.items error t.work.items × (t.visited ≡ s.visited) × (t.neighbors_fn ≡ s.neighbors_fn))))
-      → IfSome r (λ item. IfErr item (λ refused. IfMemory refused (t.work.items ≡ [])))
+      → IfSome r (λ item. IfErr item (λ failure. IfMemory failure (t.work.items ≡ [])))
       → Steps ids lists eq becomes steps can count s r t
-  step_of_items t can count None kept again ended none node failed refused = record {
+  step_of_items t can count None kept again ended none node failed failure = record {
     walks = λ f n starts yielded k. (all_items_yielded f n starts yielded k none.0, none.1);
     again = again;
     ends = none.1;
     ended = λ e. (refl, none.1);
   }
-  step_of_items t can count (Some (Ok x)) kept again ended none node failed refused = record {
+  step_of_items t can count (Some (Ok x)) kept again ended none node failed failure = record {
     walks = λ f n starts yielded k. item_yielded f n starts yielded k x t kept node;
     again = again;
     ends = tt;
     ended = λ e. absurd (true≢false (ended e));
   }
-  step_of_items t can count (Some (Err Memory)) kept again ended none node failed refused = record {
-    walks = λ f n starts yielded k. refused;
+  step_of_items t can count (Some (Err Memory)) kept again ended none node failed failure = record {
+    walks = λ f n starts yielded k. failure;
     again = again;
-    ends = refused;
+    ends = failure;
     ended = λ e. absurd (true≢false (ended e));
   }
-  step_of_items t can count (Some (Err (Node error))) kept again ended none node failed refused = record {
+  step_of_items t can count (Some (Err (Node error))) kept again ended none node failed failure = record {
     walks = λ f n starts yielded k. failed_given f n starts yielded k error t kept failed.1 failed.2 failed.0;
     again = again;
     ends = tt;

@@ -69,7 +69,7 @@ module _ {T ID E F N U S : Type 0} (ids : Shared F (Bor T × Unit {0}) (Result I
       × (t.work.items ≡ []))
       (λ x. MatchResult x (λ node. IsLeftOf eq becomes steps id_fn neighbors_fn starts
       (yielded ++ Ok node ∷ []) t)
-      (λ refused. elim refused [
+      (λ failure. elim failure [
         | Memory ↦ t.work.items
             ≡ []
         | Node e ↦ IsLeftOf eq becomes steps id_fn neighbors_fn starts (yielded ++ Err e ∷ []) t
@@ -83,7 +83,7 @@ module _ {T ID E F N U S : Type 0} (ids : Shared F (Bor T × Unit {0}) (Result I
       (t : DepthFirstOk T ID E F N) : Type 0 where
     pub walks : WalksOn eq becomes steps s r t
     pub again : IsWalkable ids lists (IsFiniteIterable becomes can left) t.id_fn t.neighbors_fn
-    pub ends : MatchOption r (HasEnded t) (λ x. IfErr x (λ refused. IfMemory refused (HasEnded t)))
+    pub ends : MatchOption r (HasEnded t) (λ x. IfErr x (λ failure. IfMemory failure (HasEnded t)))
     pub ended : HasEnded s → IsNone r × HasEnded t
 
   -- the state before the first step of a depth-first search from the starts

@@ -113,7 +113,7 @@ module _ {T ID E F N C U J : Type 0} (eq : ID → ID → Bool)
         × IsAcyclicFrom g.graph nodes))
         (λ x. MatchResult x
         (λ node. IsLeftOf id_fn neighbors_fn on_cycle starts (yielded ++ node ∷ []) t)
-        (λ refused. IfNode refused (IsCause id_fn neighbors_fn on_cycle starts)))
+        (λ failure. IfNode failure (IsCause id_fn neighbors_fn on_cycle starts)))
 
     -- One call of `next`, which returned r and left t: the order goes on; an error that was to come
     -- next came; only `None` and errors end it; and an ended order returns `None` and stays as it

@@ -57,7 +57,7 @@ impl<ID: Hash + Eq + Clone + Drop> Candidates<ID> {
         ensures ids { self.new.ids ≡ self.old.ids }
         ensures heads { OnOk result (deque_items self.new.heads ≡ deque_items self.old.heads
             ++ id ∷ []) }
-        ensures refused { OnErr result (deque_items self.new.heads ≡ deque_items self.old.heads) }
+        ensures on_error { OnErr result (deque_items self.new.heads ≡ deque_items self.old.heads) }
         ensures blocked { self.new.blocked ≡ self.old.blocked }
         ensures children { self.new.children ≡ self.old.children }
     {

@@ -53,7 +53,7 @@ where
         )?;
         match item {
             Ok(node) => Some(Ok(node)),
-            Err(refused) => match refused {
+            Err(error) => match error {
                 WalkError::Memory => Some(Err(AllocError)),
                 WalkError::Node(never) => match never {},
             },

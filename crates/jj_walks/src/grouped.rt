@@ -73,7 +73,7 @@ where
         requires clones { (i j : ID) → ID.is_clone i j → IsTrue (ID.eq i j) }
         ensures prioritized { OnOk result (Adds ID.eq (Prioritized id) self.old.pending
             self.new.pending) }
-        ensures refused { OnErr result (KeepsOn ID.eq self.old.pending self.new.pending) }
+        ensures on_error { OnErr result (KeepsOn ID.eq self.old.pending self.new.pending) }
         ensures input { self.new.input ≡ self.old.input }
         ensures as_id { self.new.as_id ≡ self.old.as_id }
     {
@@ -132,7 +132,7 @@ where
             × Adds ID.eq (Read e) self.old.pending self.new.pending) }
         ensures ended { IfOk result (λ more. more ≡ false → S.next_gives self.old.input None
             self.new.input × (self.new.pending ≡ self.old.pending)) }
-        ensures refused { IfErr result (λ error.
+        ensures error { IfErr result (λ error.
             ((h : History N ID) → Keeps ID.eq h self.old.pending
             → IsCause F.Fn ID.eq S.next_gives self.old.as_id h self.old.input error
             self.new.input)) }
@@ -199,7 +199,7 @@ impl<E: fmt::Debug + fmt::Display + Drop> Error for GroupedGraphError<E> {}
 impl<E> From<AllocError> for GroupedGraphError<E> {
     ghost from_gives = { λ _ error. error ≡ GroupedGraphError.Memory };
 
-    fn from(_refused: AllocError) -> Self {
+    fn from(_error: AllocError) -> Self {
         GroupedGraphError::Memory
     }
 }
@@ -207,7 +207,7 @@ impl<E> From<AllocError> for GroupedGraphError<E> {
 impl<T: Drop, E> From<AllocFailed<T>> for GroupedGraphError<E> {
     ghost from_gives = { λ _ error. error ≡ GroupedGraphError.Memory };
 
-    fn from(_refused: AllocFailed<T>) -> Self {
+    fn from(_error: AllocFailed<T>) -> Self {
         GroupedGraphError::Memory
     }
 }

@@ -105,7 +105,7 @@ where
         ensures emitted { self.new.emitted ≡ self.old.emitted }
         ensures graph { self.new.graph ≡ self.old.graph }
         ensures cycle_fn { self.new.cycle_fn ≡ self.old.cycle_fn }
-        ensures refused { IfErr result (λ e. e ≡ Memory) }
+        ensures error { IfErr result (λ e. e ≡ Memory) }
     {
         self.start = start;
         self.failed = failed;

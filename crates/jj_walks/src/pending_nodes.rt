@@ -63,13 +63,13 @@ impl<N: Drop, ID: Hash + Eq + Clone + Drop> PendingNodes<N, ID> {
     pub fn prioritize(&mut self, id: ID) -> Result<(), AllocError>
         requires clones { (i j : ID) → ID.is_clone i j → IsTrue (ID.eq i j) }
         ensures prioritized { OnOk result (Adds ID.eq (Prioritized id) self.old self.new) }
-        ensures refused { OnErr result (KeepsOn ID.eq self.old self.new) }
+        ensures on_error { OnErr result (KeepsOn ID.eq self.old self.new) }
         ensures nodes { self.new.nodes ≡ self.old.nodes }
     {
         self.candidates.push_head(id.clone()?)?;
-        if let Err(refused) = count_none(&mut self.counts, id) {
+        if let Err(error) = count_none(&mut self.counts, id) {
             self.candidates.drop_head();
-            return Err(refused);
+            return Err(error);
         }
         Ok(())
     }
@@ -153,7 +153,7 @@ fn count_none<ID: Hash + Eq + Drop>(
         ≡ count_at ID.eq counts.old i) }
     ensures known { OnOk result ((i : ID) → is_some (get ID.eq counts.new i)
         ≡ (ID.eq id i || is_some (get ID.eq counts.old i))) }
-    ensures refused { OnErr result ((i : ID) → get ID.eq counts.new i ≡ get ID.eq counts.old i) }
+    ensures on_error { OnErr result ((i : ID) → get ID.eq counts.new i ≡ get ID.eq counts.old i) }
 {
     if counts.contains_key(&id) {
         return Ok(());

@@ -33,7 +33,7 @@ where
     requires finite { IsFinite (I.remaining input) }
     ensures reversed { IfOk result (ReturnsReversed F.Fn I.next_gives ID.is_clone ID.eq input
         as_id) }
-    ensures refused { IfFails result (InputFails I.next_gives input) }
+    ensures error { IfFails result (InputFails I.next_gives input) }
 {
     let mut nodes = Vec::new(alloc);
     let mut incoming = HashMap::new(alloc);

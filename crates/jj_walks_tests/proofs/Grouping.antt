@@ -195,19 +195,19 @@ module _ (commits : List Commit) (required : ℕ) where
         (read-one h item (left u) order e entry.same (its-id item e entry) (subst (λ (l : List (Result Node ℕ)). IsRun commits required h l order) first.0 k))
 
     -- an error other than out of memory means that the input is invalid
-    run-refused : (h : History (Bor Commit) ℕ) (s t : S) (error : GroupedGraphError ℕ) (order : List (Bor Commit)) → IsGood s → IsHistory eqb h → IsRun commits required h (left s) order
+    run-failure : (h : History (Bor Commit) ℕ) (s t : S) (error : GroupedGraphError ℕ) (order : List (Bor Commit)) → IsGood s → IsHistory eqb h → IsRun commits required h (left s) order
         → IsCause ids eqb steps as_id h s error t → (error ≡ Memory) ⊎ Fails
-    run-refused h s t (Input e) order good is_history k step =
+    run-failure h s t (Input e) order good is_history k step =
         let n = next-item h (Err e) (left t) order (subst (λ (l : List (Result Node ℕ)). IsRun commits required h l order) (some s t (Err e) good step).0 k) in
         let same : Err e ≡ Ok n.2 = n.4 in
         absurd cc
-    run-refused h s t DuplicateId order good is_history k (item, e, step, entry, pending_nodes) =
+    run-failure h s t DuplicateId order good is_history k (item, e, step, entry, pending_nodes) =
         inr (run-twice h item (left t) order e (its-id item e entry) (subst (λ (l : List (Result Node ℕ)). IsRun commits required h l order) (some s t (Ok item) good step).0 k) pending_nodes)
-    run-refused h s t MissingNode order good is_history k (i, step, want, absent) =
+    run-failure h s t MissingNode order good is_history k (i, step, want, absent) =
         inr (run-missing h order i (subst (λ (l : List (Result Node ℕ)). IsRun commits required h l order) (none s t good step) k) is_history want absent)
-    run-refused h s t NotChildFirst order good is_history k (step, more, stuck) =
+    run-failure h s t NotChildFirst order good is_history k (step, more, stuck) =
         inr (run-stuck h order (subst (λ (l : List (Result Node ℕ)). IsRun commits required h l order) (none s t good step) k) more stuck)
-    run-refused h s t Memory order good is_history k cause = inl refl
+    run-failure h s t Memory order good is_history k cause = inl refl
 
 module _ (commits : List Commit) (required : ℕ) {S F : Type 0} {ids : Shared F (Bor (Bor Commit) × Unit {0}) (Bor ℕ)} {steps : S → Option (Result Node ℕ) → S → Type 0} {as_id : F} {s t : S} {items : List Node} {reads : List (Entry (Bor Commit) ℕ)}
     (run : ReadsTo ids eqb steps as_id s items reads t) (left : S → List (Result Node ℕ)) (IsGood : S → Type 0)
@@ -224,7 +224,7 @@ module _ (commits : List Commit) (required : ℕ) {S F : Type 0} {ids : Shared F
   run-done u step is_history nothing = run-ended commits required (read_on reads h) order (subst (λ (l : List (Result Node ℕ)). IsRun commits required (read_on reads h) l order) (none t u after.1 step) after.0) is_history nothing
 
   pub run-failed : (u : S) (error : GroupedGraphError ℕ) → IsHistory eqb (read_on reads h) → IsCause ids eqb steps as_id (read_on reads h) t error u → (error ≡ Memory) ⊎ Fails commits required
-  run-failed u error is_history cause = run-refused commits required ids steps as_id left IsGood some none says (read_on reads h) t u error order after.1 is_history after.0 cause
+  run-failed u error is_history cause = run-failure commits required ids steps as_id left IsGood some none says (read_on reads h) t u error order after.1 is_history after.0 cause
 
 -- the remaining list with its length
 pub left-some : {A : Type 0} (a b : ℕ) (xs ys : List A) (x : A) → a ≡ length xs → xs ≡ x ∷ ys → b + 1 ≡ a → b ≡ length ys

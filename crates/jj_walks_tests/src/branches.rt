@@ -76,7 +76,7 @@ pub fn grouped_commits<'a>(
         × (map (λ c. c.now) shown ≡ commits.now)
         × (IsWhole eqb (nodes_of commits.now shown) → IsGroupedOrder eqb
         (nodes_of commits.now shown) (Some required) (nodes_of commits.now order.items))) }
-    ensures refused { IfErr result (λ error. (error ≡ Memory) ⊎ ((shown : List (Bor commit))
+    ensures error { IfErr result (λ error. (error ≡ Memory) ⊎ ((shown : List (Bor commit))
         × (map (λ c. c.now) shown ≡ commits.now) × (IsWhole eqb (nodes_of commits.now shown)
         → has_node eqb (nodes_of commits.now shown) required ≡ true → ⊥))) }
 {

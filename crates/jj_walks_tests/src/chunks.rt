@@ -41,7 +41,7 @@ fn next_chunk(
 }
 
 #[test]
-fn refused_chunks_leave_no_start(rt: HostRuntime) -> Result<(), Fail> {
+fn failed_chunks_leave_no_start(rt: HostRuntime) -> Result<(), Fail> {
     passes(&rt, |rt, alloc| {
         let cases: &[(Table<'static>, &[char], &[char])] = &[
             (ROUND, &['x', 'a'], &['a', 'x']),

@@ -39,7 +39,7 @@ fn whole_parents_of<'a>(
     if !has_all(commits, &commit.parents) {
         return match String::from_str(alloc, commit.text.as_str()) {
             Ok(text) => Err(Gap::Text(text)),
-            Err(_refused) => Err(Gap::Memory),
+            Err(_error) => Err(Gap::Memory),
         };
     }
     Ok(parents_of(commits, commit))

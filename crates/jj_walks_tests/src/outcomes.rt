@@ -13,7 +13,7 @@ pub fn found<R: Abort, V: Drop, E: Drop>(
     }
     match outcome {
         Ok(value) => Ok(value),
-        Err(_refused) => Err(AllocError),
+        Err(_error) => Err(AllocError),
     }
 }
 

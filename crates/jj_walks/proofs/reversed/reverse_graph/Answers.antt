@@ -60,8 +60,8 @@ loop-edge-preserved g c = record {
       (c.in_ok-push_at.ensures q) (c.loop-edge.invariant.turned id shows before q k);
 }
 
-pub returns-in-Err-clause-refused : goal.returns-in-Err-clause-refused
-returns-in-Err-clause-refused g c =
+pub returns-in-Err-clause-error : goal.returns-in-Err-clause-error
+returns-in-Err-clause-error g c =
     let before = c.loop-item.invariant.sound in
     let source : c.into_iter-item-iterator.result ≡ c.args.input = c.into_iter-item-iterator.ensures.into_iter_gives in
     let all : c.loop-item.yielded ++ c.in-Some.item ∷ [] ≡ map (λ x. Ok x) before.0 ++ Err c.in-Err.error ∷ [] =

@@ -27,7 +27,7 @@ returns-clause-order c =
 pub returns-clause-cycle : goal.returns-clause-cycle
 returns-clause-cycle c =
     let commits = c.args.commits.now in
-    IfErr-weaker c.topo_order_reverse.result _ _ (λ refused k. node_weaker refused _ _ (λ error p.
+    IfErr-weaker c.topo_order_reverse.result _ _ (λ failure k. node_weaker failure _ _ (λ error p.
     let starts = walk_starts commits c.requires p.on_cycle.starts (drained_are (λ s r. r ≡ s) _ c.iter.result p.on_cycle.starts (λ y. y.now) commits (λ it b. YieldsList-from_slice _ (search (rules, c.iter.ensures, b))) p.on_cycle.yielded) in
     let k = p.on_cycle.holds (walk_of commits)
     (parents_implemented commits _ _ _ _ (λ x i h. search (rules, h.says.met, h.shows)) (λ a r f h. (search (rules, of_calls, h), search (rules, of_calls, h), search (rules, of_calls, h))))

@@ -42,8 +42,8 @@ loop-item-preserved c =
       run = (_, gives.5, rw pushed run.0);
     }
 
-pub returns-in_err-commit-clause-refused : goal.returns-in_err-commit-clause-refused
-returns-in_err-commit-clause-refused c =
+pub returns-in_err-commit-clause-error : goal.returns-in_err-commit-clause-error
+returns-in_err-commit-clause-error c =
     let before = c.loop-item.invariant in
     let step = rw (before.goes_on, c.in_err-commit.was) at c.in-Some.ensures.steps in
     let gives = step.1 before.run.0 before.run.1 in

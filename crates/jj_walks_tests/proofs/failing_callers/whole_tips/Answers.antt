@@ -28,7 +28,7 @@ returns-clause-tips c =
 pub returns-clause-gap : goal.returns-clause-gap
 returns-clause-gap c =
     let commits = c.args.commits.now in
-    IfErr-weaker c.heads.result _ _ (λ refused. node_weaker refused _ (IsGapIn commits) (λ gap found.
+    IfErr-weaker c.heads.result _ _ (λ failure. node_weaker failure _ (IsGapIn commits) (λ gap found.
     ⊎_elim (λ none. absurd none) (λ p.
     let q = p.reached in
     let starts = walk_starts commits c.requires.once q.starts (drained_are (λ s r. r ≡ s) _ c.iter.result q.starts (λ y. y.now) commits (λ it b. YieldsList-from_slice _ (search (rules, c.iter.ensures, b))) q.yielded) in

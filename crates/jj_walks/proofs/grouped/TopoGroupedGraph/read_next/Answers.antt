@@ -7,8 +7,8 @@ use Rattle.jj_walks.proofs.KeptHistories.{is_some-mapped}
 use Rattle.jj_dag.proofs.Walking.{returned}
 use Rattle.jj_walks.proofs.grouped.TopoGroupedGraph.read_next.Goals as goal
 
-pub returns-then-contains-clause-refused : goal.returns-then-contains-clause-refused
-returns-then-contains-clause-refused g c = λ h k.
+pub returns-then-contains-clause-error : goal.returns-then-contains-clause-error
+returns-then-contains-clause-error g c = λ h k.
     let item = c.in-Some-Ok.item in
     let e : Entry g.row.N.Denot g.row.ID.Denot = record { id = c.in_ok-id.id; node = item.0; edges = item.1.items } in
     let entry : IsEntryOf g.F.Fn g.ID.PartialEq.eq c.args.self.now.as_id item e =
