@@ -49,5 +49,5 @@ module _ {T ID E : Type 0} (graph : ClosureGraph T ID E) (find : ID → NodeStat
       : Type 0 where
     pub closest : IfOk r (λ found. FromStates (λ walk set1 set2.
         AreClosestNodes walk set1 set2 (list found)))
-    pub refused : IfFails r (λ error. (x : T) × graph.fails x error
+    pub error : IfFails r (λ error. (x : T) × graph.fails x error
         × FromStates (λ walk set1 set2. ReachedFrom walk.graph (set1 ++ set2) (walk.node x)))

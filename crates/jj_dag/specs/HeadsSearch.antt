@@ -88,5 +88,5 @@ module _ {T ID E : Type 0} (same : T → T → Bool) (eq : ID → ID → Bool)
     pub record LeavesHeads {V : Type 0} (r : Result V (WalkError E)) (left : List T)
         : Type 0 where
       pub found : IfOk r (λ _. FromStarted (λ walk nodes. AreHeads same walk nodes left))
-      pub refused : IfFails r (λ error. (x : T) × graph.fails x error
+      pub error : IfFails r (λ error. (x : T) × graph.fails x error
           × FromStarted (λ walk nodes. ReachedFrom walk.graph nodes (walk.node x)))

@@ -245,8 +245,8 @@ where
     closest_common_nodes_in(alloc, &mut known, set1, set2, id_fn, neighbors_fn)
 }
 
-/// Returns `closest_common_nodes`, with the states of nodes in this map, which must be empty. A
-/// caller that reuses it allocates once.
+/// Like [`closest_common_nodes`], but stores the states of nodes in the given map, which must be
+/// empty; a caller that reuses it allocates once.
 pub fn closest_common_nodes_in<T: Ord + Drop, ID: Hash + Eq + Drop, E: Drop, M, II1, II2, NI, F, N>(
     alloc: Global,
     known: &mut M,
@@ -340,7 +340,7 @@ where
         ≤ sides_met (M.entries known.new) + heap_len pending.old) }
     ensures small { OnOk result (sides_met (M.entries known.old) < 2 ^ 64
         → sides_met (M.entries known.new) < 2 ^ 64) }
-    ensures refused { IfFails result (λ error.
+    ensures error { IfFails result (λ error.
         CalledAt N.FnMut neighbors_fn.old node.now (Err error) neighbors_fn.new) }
 {
     match neighbors_fn(node) {

@@ -27,7 +27,7 @@ pub enum Stop<T, E> {
 impl<T, E> From<AllocError> for Stop<T, E> {
     ghost from_gives = { λ _ error. error ≡ Stop.Memory };
 
-    fn from(_refused: AllocError) -> Self {
+    fn from(_error: AllocError) -> Self {
         Stop::Memory
     }
 }
@@ -35,7 +35,7 @@ impl<T, E> From<AllocError> for Stop<T, E> {
 impl<X: Drop, T, E> From<AllocFailed<X>> for Stop<T, E> {
     ghost from_gives = { λ _ error. error ≡ Stop.Memory };
 
-    fn from(_refused: AllocFailed<X>) -> Self {
+    fn from(_error: AllocFailed<X>) -> Self {
         Stop::Memory
     }
 }

@@ -95,8 +95,8 @@ where
     Ok(heads)
 }
 
-/// Inserts `heads` into the first set, and visited ids into the second. Both sets must be empty; a
-/// caller that reuses them allocates once.
+/// Like [`heads`], but stores the heads in the first set and the visited ids in the second. Both
+/// sets must be empty; a caller that reuses them allocates once.
 pub fn heads_in<T: Eq + Clone + Drop, ID: Eq + Drop, H, V, II, NI, F, N>(
     alloc: Global,
     heads: &mut H,
@@ -140,15 +140,15 @@ where
     );
     match found {
         Ok(()) => Ok(()),
-        Err(refused) => match refused {
+        Err(error) => match error {
             WalkError::Memory => Err(AllocError),
             WalkError::Node(never) => match never {},
         },
     }
 }
 
-/// Returns `heads` over items that may fail. Fails with `Node` of the error of the first item that
-/// failed, and with `Memory` if memory runs out. Reads no item that comes after the end of the
+/// Like [`heads`], but over items that may fail. Fails with `Node` of the error of the first item
+/// that failed, and with `Memory` if memory runs out. Reads no item that comes after the end of the
 /// search.
 pub fn heads_ok<T: Hash + Eq + Clone + Drop, ID: Hash + Eq + Drop, E: Drop, II, NI, F, N>(
     alloc: Global,
@@ -179,7 +179,8 @@ where
     Ok(heads)
 }
 
-// Inserts `heads_ok` into the first set. Both sets must be empty.
+// Like `heads_ok`, but stores the heads in the first set and the visited ids in the second. Both
+// sets must be empty.
 fn heads_ok_in<T: Eq + Clone + Drop, ID: Eq + Drop, E: Drop, H, V, II, NI, F, N>(
     alloc: Global,
     heads: &mut H,
@@ -303,7 +304,7 @@ where
     ensures grows { OnOk result (length queue.old.items ≤ length queue.new.items) }
     ensures balance { OnOk result (length (V.keys visited.new) + length queue.old.items
         ≡ length (V.keys visited.old) + length queue.new.items) }
-    ensures refused { IfFails result (λ error. (list : NI)
+    ensures error { IfFails result (λ error. (list : NI)
         × CalledAt N.FnMut neighbors_fn.old node.now list neighbors_fn.new
         × FailsAfterNodes NI.into_iter_gives NI.IntoIter.next_gives list error) }
 {

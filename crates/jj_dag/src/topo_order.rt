@@ -58,8 +58,8 @@ where
     )
 }
 
-/// Returns `topo_order_forward`, with the ids of the nodes on the path and in the order in these
-/// sets, which must be empty. A caller that reuses them allocates once.
+/// Like [`topo_order_forward`], but stores the ids of the nodes on the current path and of the
+/// emitted nodes in the given sets, which must be empty; a caller that reuses them allocates once.
 pub fn topo_order_forward_in<T: Drop, ID: Eq + Clone + Drop, E, V, II, NI, F, N, C>(
     alloc: Global,
     visiting: &mut V,

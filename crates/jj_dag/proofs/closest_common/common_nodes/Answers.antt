@@ -31,7 +31,7 @@ returns-in_err-search g c =
               holds = λ walk implemented first second. failed.2 walk (map walk.node one.nodes) (map walk.node two.nodes) implemented first second
                   (sets_marked walk implemented.apart implemented.ids_match c.new-pending.ensures.items (λ i. rw none refl) one.states two.states first second);
             };
-          }) c.in_err-search.ensures.refused;
+          }) c.in_err-search.ensures.error;
     })
 
 pub returns : goal.returns

@@ -68,7 +68,7 @@ returns-in_err-is_root g c =
     let p = err_from_is_err_and c.from_residual-in_err-is_root.result c.from_residual-in_err-is_root.ensures.1 in
     rw (p.1, p.2) (record {
       closest = tt;
-      refused = node_weaker c.in_err-is_root.field-0.0 _ _ (λ error called.
+      error = node_weaker c.in_err-is_root.field-0.0 _ _ (λ error called.
           let node = c.in-Some.node in
           let popped : IsPermutation (heap_items c.loop-node.pending) (node ∷ heap_items c.pop.new.self) = c.in-Some.ensures.permutation in (
             node,
@@ -76,7 +76,7 @@ returns-in_err-is_root g c =
             λ walk set1 set2 implemented first second start.
                 let known = c.loop-node.invariant.walking walk set1 set2 implemented first second start in
                 (was_reached walk (heap_items c.pop.new.self) node implemented.closed first second known.1.1 popped).0,
-          )) c.in_err-is_root.ensures.refused;
+          )) c.in_err-is_root.ensures.error;
     })
 
 pub returns-then-not-root_met : goal.returns-then-not-root_met
@@ -99,7 +99,7 @@ returns-then-not-root_met g c = record {
       c.in_ok-insert.ensures.entries ∙ insert_new g.ID.PartialEq.eq c.loop-node.common.entries id node (new_id walk g.ID.PartialEq.eq node id implemented.closed implemented.apart first at.2 at.0 at.1) in
       rw more (closest_at_end walk (walk.node node ∷ []) (map (λ entry. walk.node entry.1) c.loop-node.common.entries) (c.loop-node.common.entries ++ (id, node) ∷ []) end at.2.states
       (ids_more walk c.loop-node.common.entries node id held.ids at.1) implemented.closed first acyclic);
-  refused = tt;
+  error = tt;
 }
 
 pub returns : goal.returns
@@ -113,5 +113,5 @@ returns g c = record {
       let known = c.loop-node.invariant.walking walk set1 set2 implemented first second start in
       let held = known.1.1 in
       closest_at_end walk [] (map (λ entry. walk.node entry.1) c.loop-node.common.entries) c.loop-node.common.entries (ends walk held empty) held.states held.ids implemented.closed first acyclic;
-  refused = tt;
+  error = tt;
 }

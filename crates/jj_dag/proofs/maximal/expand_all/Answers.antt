@@ -68,7 +68,7 @@ returns-in_err-is_root g c =
     let p = err_from_is_err_and c.from_residual.result c.from_residual.ensures.1 in
     rw (p.1, p.2) (record {
       found = tt;
-      refused = node_weaker c.in_err-is_root.field-0.0 _ _ (λ error did.
+      error = node_weaker c.in_err-is_root.field-0.0 _ _ (λ error did.
           let node = c.in-Some.node in
           let popped : c.loop-node.queue.items ≡ node ∷ c.pop_in_level.new.queue.items = c.in-Some.ensures.first in (
             node,
@@ -76,7 +76,7 @@ returns-in_err-is_root g c =
             λ walk xs implemented nodes among started.
                 let known = c.loop-node.invariant.walking walk xs implemented nodes among started in
                 ((rw popped at known.1) (walk.node node) (0, omega arith, refl)).1,
-          )) c.in_err-is_root.ensures.refused;
+          )) c.in_err-is_root.ensures.error;
     })
 
 pub returns : goal.returns
@@ -88,5 +88,5 @@ returns g c = record {
       let search = (c.loop-node.invariant.walking walk xs implemented nodes among started).2 stands in
       holds_maximal walk g.T.PartialEq.eq xs search.1 stands c.len-count-2.ensures.distinct
       (one_queued walk c.loop-node.queue.items short) (no_root_queued walk c.loop-node.queue.items c.loop-node.root_met none) acyclic;
-  refused = tt;
+  error = tt;
 }

@@ -21,7 +21,7 @@ returns-clause-heads g c =
 pub returns-clause-error : goal.returns-clause-error
 returns-clause-error g c =
     let starts = c.in_ok-add_starts.ensures.starts in
-    IfErr-weaker c.expand_all.result _ _ (λ refused. node_weaker refused _ _ (λ error failed.
+    IfErr-weaker c.expand_all.result _ _ (λ failure. node_weaker failure _ _ (λ error failed.
     inr (record {
       node = failed.0;
       fails = failed.1;
@@ -31,4 +31,4 @@ returns-clause-error g c =
         holds = λ walk implemented nodes. failed.2 walk starts.nodes implemented nodes starts.queued
             (λ same. starts.started walk (record { apart = implemented.apart; ids_match = implemented.ids_match }) same nodes);
       };
-    }))) c.expand_all.ensures.refused
+    }))) c.expand_all.ensures.error

@@ -32,8 +32,8 @@ loop-neighbor-preserved g c =
       );
     }
 
-pub returns-in-Err-clause-refused : goal.returns-in-Err-clause-refused
-returns-in-Err-clause-refused g c =
+pub returns-in-Err-clause-error : goal.returns-in-Err-clause-error
+returns-in-Err-clause-error g c =
     let sound = c.loop-neighbor.invariant.sound in (
       c.neighbors_fn-neighbor-items.result,
       called_at g.N.FnMut c.neighbors_fn-neighbor-items.ensures refl,
