@@ -1,8 +1,7 @@
 -- Lemmas about the depth-first search that collects nodes.
-use Rattle.std.proofs.Common.{◌≡◌, ℕ, ◌+◌, ◌<◌, get_or, take, Bool, true, List, [], ◌∷◌, ◌++◌, map, length, Some, Result, Ok, cond, refl, sym, ◌∙◌, ap, arith}
+use Rattle.std.proofs.Common.{◌≡◌, ℕ, ◌+◌, ◌<◌, get_or, take, Bool, true, List, [], ◌∷◌, ◌++◌, map, length, Option, Some, Result, Ok, cond, refl, sym, ◌∙◌, ap, arith}
 use Rattle.std.specs.Fn.{CalledAt, Mut, Shared}
 use Rattle.std.specs.Global.{Global}
-use Rattle.std.specs.HashMap.{get}
 use Rattle.std.specs.Iterator.{IsFiniteIterable}
 use Rattle.std.specs.List.{AllZip, Contains}
 use Rattle.std.proofs.lemmas.List.{length-map, length_push, map_push, take_more}
@@ -66,16 +65,16 @@ pub whole_listed : {T ID : Type 0} (walk : GraphModel T ID) (a : ℕ) (xs : List
 whole_listed walk a xs e = ap (map (λ b. Ok b)) (sym e) ∙ map_twice (λ (b : ℕ). Ok b) walk.node xs
 
 -- one more node is collected
-pub filled_more : {T ID : Type 0} (eq : ID → ID → Bool) (s t : IndexedGraph T ID) (node : T) (id : ID) (kept : Vec ID Global) (filled : IsFilled eq s) → t.nodes.items ≡ s.nodes.items ++ Some node ∷ []
-    → t.neighbor_ids.items ≡ s.neighbor_ids.items ++ kept ∷ [] → ((i : ID) → get eq t.index_of i ≡ cond (eq id i) (Some (length s.nodes.items)) (get eq s.index_of i))
-    → (more : IsFilled eq t) × (more.visited ≡ filled.visited ++ node ∷ [])
-filled_more eq s t node id kept filled nodes lists indices = (
+pub filled_more : {T ID : Type 0} (eq : ID → ID → Bool) (find find2 : ID → Option ℕ) (s t : IndexedGraph T ID) (node : T) (id : ID) (kept : Vec ID Global) (filled : IsFilled find s) → t.nodes.items ≡ s.nodes.items ++ Some node ∷ []
+    → t.neighbor_ids.items ≡ s.neighbor_ids.items ++ kept ∷ [] → ((i : ID) → find2 i ≡ cond (eq id i) (Some (length s.nodes.items)) (find i))
+    → (more : IsFilled find2 t) × (more.visited ≡ filled.visited ++ node ∷ [])
+filled_more eq find find2 s t node id kept filled nodes lists indices = (
   record {
     visited = filled.visited ++ node ∷ [];
     nodes = nodes ∙ ap (λ l. l ++ Some node ∷ []) filled.nodes ∙ sym (map_push (λ x. Some x) filled.visited node);
     ids = ap length lists ∙ length_push s.neighbor_ids.items kept ∙ ap (λ n. n + 1) filled.ids ∙ sym (length_push filled.visited node);
     indices = λ i k found. rw (length_push filled.visited node)
-        (indices_more eq (get eq s.index_of) _ id (length filled.visited) (length s.nodes.items) filled.indices (ap length filled.nodes ∙ length-map filled.visited (λ x. Some x)) indices i k found);
+        (indices_more eq find find2 id (length filled.visited) (length s.nodes.items) filled.indices (ap length filled.nodes ∙ length-map filled.visited (λ x. Some x)) indices i k found);
   },
   refl,
 )

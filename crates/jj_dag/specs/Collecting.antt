@@ -1,25 +1,29 @@
 -- Nodes that a walk collected, each with the ids of its neighbors.
--- Cited by contracts of public items: IsFilled, neighbor_indices.
+-- Cited by contracts of public items: IsFilled, index_in, neighbor_indices.
 use Rattle.std.specs.Prelude.{◌≡◌, ℕ, ◌<◌, Bool, true, Option, Some, MatchOption, List, map, length, slice_index, ◌⊎◌}
 use Rattle.std.specs.declared.result.Result.TheVariants.{Err}
-use Rattle.std.specs.HashMap.{get}
 use Rattle.std.specs.List.{Contains, filter_map}
+use Rattle.std.specs.Map.{lookup}
 use Rattle.jj_dag.specs.declared.greatest_order.IndexedGraph.{IndexedGraph}
 use Rattle.jj_dag.specs.Graph.{HasEdge, ReachedFrom}
 use Rattle.jj_dag.specs.FallibleGraphs.{FallibleGraph}
 use Rattle.jj_dag.specs.Walk.{GraphModel}
 
+-- the index of an id, by the entries of a map
+abbrev pub index_in : {ID : Type 0} → (ID → ID → Bool) → List (ID × ℕ) → ID → Option ℕ
+index_in eq entries i = lookup (eq i) entries
+
 -- as many lists of ids as nodes, all of which are present, and each index is that of a node
-pub record IsFilled {T ID : Type 0} (eq : ID → ID → Bool) (found : IndexedGraph T ID) : Type 0 where
+pub record IsFilled {T ID : Type 0} (find : ID → Option ℕ) (found : IndexedGraph T ID)
+    : Type 0 where
   pub visited : List T
   pub nodes : found.nodes.items ≡ map (λ x. Some x) visited
   pub ids : length found.neighbor_ids.items ≡ length visited
-  pub indices : (i : ID) (k : ℕ) → get eq found.index_of i ≡ Some k → k < length visited
+  pub indices : (i : ID) (k : ℕ) → find i ≡ Some k → k < length visited
 
 -- the indices of the neighbors of each node
-abbrev pub neighbor_indices : {T ID : Type 0} → (ID → ID → Bool) → IndexedGraph T ID → List (List ℕ)
-neighbor_indices eq found =
-    map (λ v. filter_map (get eq found.index_of) v.items) found.neighbor_ids.items
+abbrev pub neighbor_indices : {T ID : Type 0} → (ID → Option ℕ) → IndexedGraph T ID → List (List ℕ)
+neighbor_indices find found = map (λ v. filter_map find v.items) found.neighbor_ids.items
 
 -- no number is at two indices
 abbrev pub IsInjective : List ℕ → Type 0

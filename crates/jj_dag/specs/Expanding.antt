@@ -1,10 +1,9 @@
 -- The results of expanding one node, and all nodes that several starts reach.
 -- Cited by contracts of public items: CollectsFrom, ListsNode.
-use Rattle.std.specs.Prelude.{◌≡◌, ℕ, Bool, true, List, [], map, Result, IfOk}
+use Rattle.std.specs.Prelude.{◌≡◌, ℕ, Bool, true, List, [], Option, map, Result, IfOk}
 use Rattle.std.specs.declared.result.Result.TheVariants.{Ok}
 use Rattle.std.specs.Fn.{Shared, Mut}
 use Rattle.std.specs.Global.{Global}
-use Rattle.std.specs.HashMap.{get}
 use Rattle.std.specs.Iterator.{IsFiniteIterable}
 use Rattle.std.specs.declared.alloc.AllocError.{AllocError}
 use Rattle.std.specs.declared.iter.IntoIterator as into
@@ -62,14 +61,14 @@ module _ {T ID E F N U J : Type 0} (eq : ID → ID → Bool)
       → P walk (map walk.node starts)
 
   -- the nodes that these reach were collected, with the ids of the neighbors of each
-  abbrev pub HasCollected : Closures F N → List T → IndexedGraph T ID → Type 0
-  HasCollected s starts found = (filled : IsFilled eq found)
-      × InModels s starts (λ walk nodes. IsCollecting walk (whole walk) nodes
-      (get eq found.index_of) [] filled.visited (map (λ v. v.items) found.neighbor_ids.items))
+  abbrev pub HasCollected : Closures F N → List T → (ID → Option ℕ) → IndexedGraph T ID → Type 0
+  HasCollected s starts find found = (filled : IsFilled find found)
+      × InModels s starts (λ walk nodes. IsCollecting walk (whole walk) nodes find []
+      filled.visited (map (λ v. v.items) found.neighbor_ids.items))
 
-  pub record CollectsFrom (s : Closures F N) (starts : List T)
+  pub record CollectsFrom (s : Closures F N) (starts : List T) (find : ID → Option ℕ)
       (r : Result (IndexedGraph T ID) (WalkError E)) : Type 0 where
-    pub collected : IfOk r (HasCollected s starts)
+    pub collected : IfOk r (HasCollected s starts find)
     pub failed : IfFails r (λ error. (x : T)
         × (graph_at s.id_fn s.neighbors_fn).fails x error
         × InModels s starts (λ walk nodes. ReachedFrom walk.graph nodes (walk.node x)))

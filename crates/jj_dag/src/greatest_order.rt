@@ -1,18 +1,19 @@
 //! The lexicographically greatest topological order: Kahn's algorithm with a max-heap.
-ghost use Rattle.std.specs.Prelude.{◌≡◌, ◌⊎◌, ℕ, ◌<◌, ◌∷◌, ◌++◌, [], cond, map, length, slice_index, slice_index_or, slice_set, IfOk, IsSome, OnOk, MatchOption};
-ghost use Rattle.std.specs.HashMap.{get};
+ghost use Rattle.std.specs.Prelude.{◌≡◌, ◌⊎◌, ℕ, ◌<◌, ◌∷◌, ◌++◌, [], map, length, slice_index, slice_index_or, slice_set, IfOk, IsSome, OnOk, MatchOption};
 ghost use Rattle.std.specs.List.{Contains, filter_map};
 ghost use Rattle.std.specs.List.Sorted.{IsPermutation};
 ghost use Rattle.std.specs.BinaryHeap.{heap_items, KeepsHeap};
 ghost use Rattle.std.specs.Ordering.{nat_cmp, ordering_then};
-ghost use Rattle.jj_dag.specs.Collecting.{IsFilled, neighbor_indices};
+ghost use Rattle.jj_dag.specs.Collecting.{IsFilled, index_in, neighbor_indices};
 ghost use Rattle.jj_dag.specs.ClosureGraph.{InEachModel, IsInputError, IsMadeBesideCycle, graph_of_items, list_of_items};
 ghost use Rattle.jj_dag.specs.GreatestOrder.{IsGreatestOrder};
+ghost use Rattle.jj_dag.specs.NodeMaps.{UpdatesEntry};
 ghost use Rattle.jj_dag.specs.Outcomes.{IfFails};
 ghost use Rattle.jj_dag.specs.ReadyNodes.{TakesGreatestFirst, in_degree, index_graph};
 
 use crate::closures::Closures;
 use crate::collect_ok::collect_ok;
+use crate::node_map::NodeMap;
 use crate::walk_error::WalkError;
 use std::alloc::{AllocError, Global};
 use std::collections::{BinaryHeap, HashMap};
@@ -51,13 +52,50 @@ where
         (graph_of_items ID.eq F.Fn N.FnMut NI.IntoIterator NI.IntoIter.Iterator id_fn neighbors_fn)
         (list_of_items II.IntoIterator II.IntoIter.Iterator start) e) }
 {
+    let mut index_of: HashMap<ID, usize> = HashMap::new(alloc);
+    topo_order_reverse_ord_in(alloc, &mut index_of, start, id_fn, neighbors_fn, cycle_fn)
+}
+
+/// Like [`topo_order_reverse_ord`], but stores the index of each id in the given map, which must be
+/// empty; a caller that reuses it allocates once.
+pub fn topo_order_reverse_ord_in<T: Ord + Drop, ID: Eq + Drop, E: Drop, M, II, NI, F, N, C>(
+    alloc: Global,
+    index_of: &mut M,
+    start: II,
+    id_fn: F,
+    neighbors_fn: N,
+    cycle_fn: C,
+) -> Result<Vec<T>, WalkError<E>>
+where
+    M: NodeMap<ID, usize>,
+    II: IntoIterator<Item = Result<T, E>, IntoIter: Drop>,
+    NI: IntoIterator<Item = Result<T, E>, IntoIter: Drop>,
+    F: Fn(&T) -> Result<ID, AllocError> + Drop,
+    N: FnMut(&T) -> NI + Drop,
+    C: FnOnce(T) -> E + Drop,
+    requires graph { (graph_of_items ID.eq F.Fn N.FnMut NI.IntoIterator NI.IntoIter.Iterator id_fn
+        neighbors_fn).walkable }
+    requires cycle_fn { C.IsAlwaysCallable cycle_fn }
+    requires start { (list_of_items II.IntoIterator II.IntoIter.Iterator start).finite }
+    requires none_indexed { M.entries index_of.old ≡ [] }
+    ensures order { IfOk result (λ v. InEachModel
+        (graph_of_items ID.eq F.Fn N.FnMut NI.IntoIterator NI.IntoIter.Iterator id_fn neighbors_fn)
+        (list_of_items II.IntoIterator II.IntoIter.Iterator start)
+        (λ g starts. IsGreatestOrder T.cmp g starts (map g.node v.items))) }
+    ensures error { IfFails result (λ e. IsInputError
+        (graph_of_items ID.eq F.Fn N.FnMut NI.IntoIterator NI.IntoIter.Iterator id_fn neighbors_fn)
+        (list_of_items II.IntoIterator II.IntoIter.Iterator start) e
+        ⊎ IsMadeBesideCycle (C.post cycle_fn)
+        (graph_of_items ID.eq F.Fn N.FnMut NI.IntoIterator NI.IntoIter.Iterator id_fn neighbors_fn)
+        (list_of_items II.IntoIterator II.IntoIter.Iterator start) e) }
+{
     let nodes = collect_ok(alloc, start)?;
     let mut graph = Closures {
         id_fn,
         neighbors_fn,
     };
-    let found = graph.collect(alloc, nodes)?;
-    let (order, left) = found.into_greatest_order(alloc)?;
+    let found = graph.collect(alloc, index_of, nodes)?;
+    let (order, left) = found.into_greatest_order(alloc, index_of)?;
     match left {
         Some(node) => Err(WalkError::Node(cycle_fn(node))),
         None => Ok(order),
@@ -86,72 +124,80 @@ fn make_ready<T: Ord + Drop>(
 }
 
 /// Adjacency lists of ids: the nodes that a walk visited, in that order, and the ids of the
-/// neighbors of each.
+/// neighbors of each. A map beside it has the index of each id.
 #[derive(Drop)]
-pub struct IndexedGraph<T, ID: Hash + Eq> {
+pub struct IndexedGraph<T, ID> {
     pub nodes: Vec<Option<T>>,
     pub neighbor_ids: Vec<Vec<ID>>,
-    pub index_of: HashMap<ID, usize>,
 }
 
-impl<T: Drop, ID: Hash + Eq + Drop> IndexedGraph<T, ID> {
+impl<T: Drop, ID: Eq + Drop> IndexedGraph<T, ID> {
     /// Creates an empty graph.
     pub fn new(alloc: Global) -> Self
         ensures nodes { result.nodes.items ≡ [] }
         ensures ids { result.neighbor_ids.items ≡ [] }
-        ensures indices { (i : ID) → get ID.eq result.index_of i ≡ None }
     {
         IndexedGraph {
             nodes: Vec::new(alloc),
             neighbor_ids: Vec::new(alloc),
-            index_of: HashMap::new(alloc),
         }
     }
 
-    /// Appends a node with its id and the ids of its neighbors. Fails if memory runs out.
-    pub fn add_node(&mut self, node: T, id: ID, neighbor_ids: Vec<ID>) -> Result<(), AllocError>
+    /// Appends a node with the ids of its neighbors, and stores its index in the map. Fails if
+    /// memory runs out.
+    pub fn add_node<M: NodeMap<ID, usize>>(
+        &mut self,
+        index_of: &mut M,
+        node: T,
+        id: ID,
+        neighbor_ids: Vec<ID>,
+    ) -> Result<(), AllocError>
         ensures nodes { OnOk result (self.new.nodes.items
             ≡ self.old.nodes.items ++ Some node ∷ []) }
         ensures ids { OnOk result (self.new.neighbor_ids.items
             ≡ self.old.neighbor_ids.items ++ neighbor_ids ∷ []) }
-        ensures indices { OnOk result ((i : ID) → get ID.eq self.new.index_of i
-            ≡ cond (ID.eq id i) (Some (length self.old.nodes.items))
-            (get ID.eq self.old.index_of i)) }
+        ensures indices { OnOk result (UpdatesEntry ID.eq (M.entries index_of.old)
+            (M.entries index_of.new) id (length self.old.nodes.items)) }
     {
-        self.index_of.insert(id, self.nodes.len())?;
+        index_of.insert(id, self.nodes.len())?;
         self.nodes.push(Some(node))?;
         self.neighbor_ids.push(neighbor_ids)?;
         Ok(())
     }
 }
 
-impl<T: Ord + Drop, ID: Hash + Eq + Drop> IndexedGraph<T, ID> {
+impl<T: Ord + Drop, ID: Eq + Drop> IndexedGraph<T, ID> {
     /// Returns the nodes in the greatest topological order by Kahn's algorithm, and a node that is
     /// left if there is a cycle. Fails if memory runs out.
-    pub fn into_greatest_order(self, alloc: Global) -> Result<(Vec<T>, Option<T>), AllocError>
-        requires { IsFilled ID.eq self }
-        ensures { IfOk result
-            (TakesGreatestFirst T.cmp self.nodes.items (neighbor_indices ID.eq self)) }
+    pub fn into_greatest_order<M: NodeMap<ID, usize>>(
+        self,
+        alloc: Global,
+        index_of: &M,
+    ) -> Result<(Vec<T>, Option<T>), AllocError>
+        requires { IsFilled (index_in ID.eq (M.entries index_of.now)) self }
+        ensures { IfOk result (TakesGreatestFirst T.cmp self.nodes.items
+            (neighbor_indices (index_in ID.eq (M.entries index_of.now)) self)) }
     {
         let IndexedGraph {
             nodes,
             neighbor_ids,
-            index_of,
         } = self;
-        let (targets, indegrees) = link(alloc, &index_of, &neighbor_ids)?;
+        let (targets, indegrees) = link(alloc, index_of, &neighbor_ids)?;
         take_greatest_first(alloc, nodes, &targets, indegrees)
     }
 }
 
 // Returns the indices of the neighbors of each node, and the in-degree of each index.
-fn link<ID: Hash + Eq + Drop>(
+fn link<ID: Eq + Drop, M: NodeMap<ID, usize>>(
     alloc: Global,
-    index_of: &HashMap<ID, usize>,
+    index_of: &M,
     neighbor_ids: &[Vec<ID>],
 ) -> Result<(Vec<Vec<usize>>, Vec<usize>), AllocError>
-    requires { (i : ID) (k : ℕ) → get ID.eq index_of.now i ≡ Some k → k < length neighbor_ids.now }
+    requires { (i : ID) (k : ℕ) → index_in ID.eq (M.entries index_of.now) i ≡ Some k
+        → k < length neighbor_ids.now }
     ensures targets { IfOk result (λ r. map (λ v. v.items) r.0.items
-        ≡ map (λ v. filter_map (get ID.eq index_of.now) v.items) neighbor_ids.now) }
+        ≡ map (λ v. filter_map (index_in ID.eq (M.entries index_of.now)) v.items)
+        neighbor_ids.now) }
     ensures counts { IfOk result (λ r. length r.1.items ≡ length neighbor_ids.now) }
     ensures indegrees { IfOk result (λ r. (k : ℕ) → k < length neighbor_ids.now
         → slice_index r.1.items k ≡ in_degree (map (λ v. v.items) r.0.items) k) }
@@ -162,7 +208,6 @@ fn link<ID: Hash + Eq + Drop>(
         let mut indices = Vec::new(alloc);
         for id in ids {
             if let Some(index) = index_of.get(id) {
-                let index = *index;
                 // More edges than a `usize` counts do not fit into memory.
                 let Some(count) = indegrees[index].checked_add(1) else {
                     return Err(AllocError);

@@ -1,10 +1,9 @@
 -- Exploring a graph from several starts until every explored node reaches one frontier node, and
 -- the explored nodes in topological order.
 -- Machinery of private functions and fields.
-use Rattle.std.specs.Prelude.{◌≡◌, ◌≤◌, Bool, List, [], map, length, Result, IfOk, MatchOption}
+use Rattle.std.specs.Prelude.{◌≡◌, ℕ, ◌≤◌, Bool, List, [], Option, map, length, Result, IfOk, MatchOption}
 use Rattle.std.specs.Fn.{Shared, Mut}
 use Rattle.std.specs.Global.{Global}
-use Rattle.std.specs.HashMap.{get}
 use Rattle.std.specs.declared.alloc.AllocError.{AllocError}
 use Rattle.std.specs.declared.iter.IntoIterator as into
 use Rattle.std.specs.declared.iter.Iterator as iter
@@ -32,17 +31,18 @@ module _ {T ID E F N U J : Type 0} (eq : ID → ID → Bool)
       (λ walk nodes. ReachedFrom walk.graph nodes (walk.node x))
 
   -- the explored nodes, with the ids of the neighbors of each, and at most one frontier node
-  abbrev pub HasExplored : Closures F N → List T → IndexedGraph T ID × Vec T Global → Type 0
-  HasExplored s starts r = (filled : IsFilled eq r.0)
+  abbrev pub HasExplored : Closures F N → List T → (ID → Option ℕ)
+      → IndexedGraph T ID × Vec T Global → Type 0
+  HasExplored s starts find r = (filled : IsFilled find r.0)
       × (filled.visited ≡ [] → r.1.items ≡ []) × (length r.1.items ≤ 1)
       × InModels eq ids lists value items s starts (λ walk nodes.
-      HasLooked walk (whole walk) nodes (get eq r.0.index_of) r.1.items filled.visited
+      HasLooked walk (whole walk) nodes find r.1.items filled.visited
       (map (λ v. v.items) r.0.neighbor_ids.items))
 
-  pub record ExploresFrom (s t : Closures F N) (starts : List T)
+  pub record ExploresFrom (s t : Closures F N) (starts : List T) (find : ID → Option ℕ)
       (r : Result (IndexedGraph T ID × Vec T Global) (WalkError E)) : Type 0 where
     pub graph : StillImplements eq ids lists value items s t
-    pub explored : IfOk r (HasExplored s starts)
+    pub explored : IfOk r (HasExplored s starts find)
     pub failed : IfFails r (FailsBelow s starts)
 
   -- a chunk of the reachable nodes; or a reachable node, and a cycle is reachable

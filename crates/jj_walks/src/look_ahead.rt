@@ -5,13 +5,14 @@ ghost use Rattle.std.specs.Iterator.{IsFiniteIterable};
 ghost use Rattle.std.specs.List.Sorted.{IsPermutation};
 ghost use Rattle.std.specs.BinaryHeap.{heap_items};
 ghost use Rattle.jj_dag.specs.ClosureGraph.{IsWalkable};
+ghost use Rattle.jj_dag.specs.Collecting.{index_in};
 ghost use Rattle.jj_walks.specs.Exploring.{ExploresFrom, TakesChunk};
 
 use jj_dag::closures::{Closures, ids_of};
 use jj_dag::greatest_order::IndexedGraph;
 use jj_dag::walk_error::WalkError;
 use std::alloc::{AllocError, Global};
-use std::collections::BinaryHeap;
+use std::collections::{BinaryHeap, HashMap};
 use std::hash::Hash;
 
 // Pops the greatest pending node. Returns `None` if none is pending, or if only one is after some
@@ -43,33 +44,36 @@ pub struct Chunk<T> {
     pub stuck: Option<T>,
 }
 
-// Expands the greatest pending node until at most one remains and no root was found.
+// Expands the greatest pending node until at most one remains and no root was found. Stores the
+// indices of the expanded nodes in the map, which must be empty.
 fn explore<F, N, T: Ord + Drop, ID: Hash + Eq + Drop, E: Drop, NI>(
     closures: &mut Closures<F, N>,
     alloc: Global,
+    index_of: &mut HashMap<ID, usize>,
     start: Vec<T>,
 ) -> Result<(IndexedGraph<T, ID>, Vec<T>), WalkError<E>>
 where
     NI: IntoIterator<Item = Result<T, E>, IntoIter: Drop>,
     F: Fn(&T) -> Result<ID, AllocError>,
     N: FnMut(&T) -> NI,
-    requires { IsWalkable F.Fn N.FnMut (IsFiniteIterable NI.into_iter_gives NI.IntoIter.can_next
-        NI.IntoIter.remaining) closures.old.id_fn closures.old.neighbors_fn }
+    requires graph { IsWalkable F.Fn N.FnMut (IsFiniteIterable NI.into_iter_gives
+        NI.IntoIter.can_next NI.IntoIter.remaining) closures.old.id_fn closures.old.neighbors_fn }
+    requires none_indexed { index_of.old.entries ≡ [] }
     ensures { ExploresFrom ID.eq F.Fn N.FnMut NI.IntoIterator NI.IntoIter.Iterator closures.old
-        closures.new start.items result }
+        closures.new start.items (index_in ID.eq index_of.new.entries) result }
 {
     let mut frontier = BinaryHeap::from(start);
     let mut found = IndexedGraph::new(alloc);
     let mut root_met = false;
     while let Some(node) = next_to_explore(&mut frontier, found.nodes.len(), root_met) {
         let id = (closures.id_fn)(&node)?;
-        if found.index_of.contains_key(&id) {
+        if index_of.contains_key(&id) {
             continue;
         }
         let neighbors = closures.neighbors(alloc, &node)?;
         let ids = ids_of(alloc, &closures.id_fn, &neighbors)?;
         root_met |= ids.is_empty();
-        found.add_node(node, id, ids)?;
+        found.add_node(index_of, node, id, ids)?;
         frontier.append(&mut BinaryHeap::from(neighbors))?;
     }
     Ok((found, frontier.into_vec()))
@@ -92,7 +96,8 @@ where
     ensures { TakesChunk ID.eq F.Fn N.FnMut NI.IntoIterator NI.IntoIter.Iterator closures.old
         closures.new start.items result }
 {
-    let (found, left) = explore(closures, alloc, start)?;
-    let (nodes, stuck) = found.into_greatest_order(alloc)?;
+    let mut index_of = HashMap::new(alloc);
+    let (found, left) = explore(closures, alloc, &mut index_of, start)?;
+    let (nodes, stuck) = found.into_greatest_order(alloc, &index_of)?;
     Ok(Chunk { nodes, left, stuck })
 }

@@ -1,8 +1,8 @@
 use Rattle.std.proofs.Common.{rules, ◌≡◌, ◌<◌, ◌++◌, ◌∷◌, [], map, length, take, refl, sym, ap, ◌∙◌, arith, None, Some, length-set}
-use Rattle.std.specs.HashMap.{get}
 use Rattle.std.specs.List.{filter_map}
 use Rattle.std.proofs.lemmas.Grind.{common_steps}
 use Rattle.std.proofs.lemmas.List.{map_push, take_all}
+use Rattle.jj_dag.specs.Collecting.{index_in}
 use Rattle.jj_dag.proofs.Linking.{counts_edge, counts_list, map_one_more, filter_map_found, filter_map_missed}
 use Rattle.jj_dag.proofs.greatest_order.link.Goals as goal
 use Rattle.jj_dag.proofs.greatest_order.link.Goals.{in-Some+in-Some-checked_add+in_ok-push, in_default}
@@ -13,23 +13,23 @@ loop-id-preserved g c =
     let lt : c.loop-id.id-index < length c.deref-id-items.result.now = omega arith in
     elim c.match-get.branch [
       | in-Some+in-Some-checked_add+in_ok-push w ↦
-          let index = w.in-Some.index.now in
-          let found : get g.ID.PartialEq.eq c.args.index_of.now c.id-item.result ≡ Some index = sym w.in-Some.ensures.value in
+          let index = w.in-Some.index in
+          let found : index_in g.ID.PartialEq.eq (g.M.NodeMap.entries c.args.index_of.now) c.id-item.result ≡ Some index = sym w.in-Some.ensures in
           let within : index < length c.args.neighbor_ids.now = c.requires c.id-item.result index found in
           record {
             lengths = rw (w.indegrees-is) (length-set c.loop-id.indegrees.items index w.in-Some-checked_add.count ∙ before.lengths);
             counts = rw (w.indegrees-is, w.indices-is, w.in_ok-push.ensures.items)
                 (counts_edge (length c.args.neighbor_ids.now) c.loop-id.indegrees.items c.loop-id.indices.items (map (λ v. v.items) c.loop-ids.targets.items) index w.index.result.now w.in-Some-checked_add.count before.counts (omega arith) w.index.ensures w.in-Some-checked_add.ensures.1);
             indices = rw (w.indices-is, w.in_ok-push.ensures.items, before.indices)
-                (sym (filter_map_found (get g.ID.PartialEq.eq c.args.index_of.now) c.deref-id-items.result.now c.loop-id.id-index c.id-item.result index lt c.id-item.is found));
+                (sym (filter_map_found (index_in g.ID.PartialEq.eq (g.M.NodeMap.entries c.args.index_of.now)) c.deref-id-items.result.now c.loop-id.id-index c.id-item.result index lt c.id-item.is found));
           }
       | in_default w ↦
-          let missed : get g.ID.PartialEq.eq c.args.index_of.now c.id-item.result ≡ None = sym w.in_default.ensures.value in
+          let missed : index_in g.ID.PartialEq.eq (g.M.NodeMap.entries c.args.index_of.now) c.id-item.result ≡ None = sym w.in_default.ensures in
           record {
             lengths = rw (w.indegrees-is) before.lengths;
             counts = rw (w.indegrees-is, w.indices-is) before.counts;
             indices = rw (w.indices-is, before.indices)
-                (sym (filter_map_missed (get g.ID.PartialEq.eq c.args.index_of.now) c.deref-id-items.result.now c.loop-id.id-index c.id-item.result lt c.id-item.is missed));
+                (sym (filter_map_missed (index_in g.ID.PartialEq.eq (g.M.NodeMap.entries c.args.index_of.now)) c.deref-id-items.result.now c.loop-id.id-index c.id-item.result lt c.id-item.is missed));
           }
     ]
 
@@ -44,13 +44,13 @@ pub loop-id-init : goal.loop-id-init
 loop-id-init g c = search rules
 
 pub index-requires : goal.index-requires
-index-requires g c = omega (arith, c.loop-id.invariant.lengths, c.requires c.id-item.result c.in-Some.index.now (sym c.in-Some.ensures.value))
+index-requires g c = omega (arith, c.loop-id.invariant.lengths, c.requires c.id-item.result c.in-Some.index (sym c.in-Some.ensures))
 
 pub checked_add-requires : goal.checked_add-requires
 checked_add-requires g c = search rules
 
 pub index_mut-requires : goal.index_mut-requires
-index_mut-requires g c = omega (arith, c.loop-id.invariant.lengths, c.requires c.id-item.result c.in-Some.index.now (sym c.in-Some.ensures.value))
+index_mut-requires g c = omega (arith, c.loop-id.invariant.lengths, c.requires c.id-item.result c.in-Some.index (sym c.in-Some.ensures))
 
 pub loop-id-smaller : goal.loop-id-smaller
 loop-id-smaller g c = search rules
@@ -60,7 +60,7 @@ loop-ids-smaller g c = search rules
 
 pub loop-ids-preserved : goal.loop-ids-preserved
 loop-ids-preserved g c =
-    let h = get g.ID.PartialEq.eq c.args.index_of.now in
+    let h = index_in g.ID.PartialEq.eq (g.M.NodeMap.entries c.args.index_of.now) in
     let more : map (λ v. v.items) c.push-in-loop-ids.new.self.items ≡ map (λ v. v.items) c.loop-ids.targets.items ++ c.loop-id.indices.items ∷ [] =
     rw (c.in_ok-push-2.ensures.items, map_push) refl in
     let whole : c.loop-id.indices.items ≡ filter_map h c.ids-item.result.items =
@@ -77,7 +77,7 @@ loop-ids-preserved g c =
 
 pub returns-clause-targets : goal.returns-clause-targets
 returns-clause-targets g c =
-    let h = get g.ID.PartialEq.eq c.args.index_of.now in
+    let h = index_in g.ID.PartialEq.eq (g.M.NodeMap.entries c.args.index_of.now) in
     c.loop-ids.invariant.targets ∙ ap (map (λ v. filter_map h v.items)) (take_all c.loop-ids.ids-index c.args.neighbor_ids.now (omega arith))
 
 pub returns-clause-counts : goal.returns-clause-counts

@@ -1,6 +1,6 @@
 use Rattle.std.proofs.Common.{◌≡◌, [], map, length, take}
-use Rattle.std.specs.HashMap.{get}
 use Rattle.std.specs.List.{filter_map}
+use Rattle.jj_dag.specs.Collecting.{index_in}
 use Rattle.jj_dag.proofs.Linking.{AreCounts}
 use Rattle.jj_dag.proofs.greatest_order.link.Given as goal
 
@@ -8,12 +8,12 @@ abbrev pub invariant-loop-ids : goal.invariant-loop-ids
 invariant-loop-ids g l = record {
   lengths : length l.indegrees.items ≡ length l.neighbor_ids;
   counts : AreCounts (length l.neighbor_ids) l.indegrees.items (map (λ v. v.items) l.targets.items) [];
-  targets : map (λ v. v.items) l.targets.items ≡ map (λ v. filter_map (get g.ID.PartialEq.eq l.index_of) v.items) (take l.ids-index l.neighbor_ids);
+  targets : map (λ v. v.items) l.targets.items ≡ map (λ v. filter_map (index_in g.ID.PartialEq.eq (g.M.NodeMap.entries l.index_of)) v.items) (take l.ids-index l.neighbor_ids);
 }
 
 abbrev pub invariant-loop-id : goal.invariant-loop-id
 invariant-loop-id g l = record {
   lengths : length l.indegrees.items ≡ length l.neighbor_ids;
   counts : AreCounts (length l.neighbor_ids) l.indegrees.items (map (λ v. v.items) l.targets.items) l.indices.items;
-  indices : l.indices.items ≡ filter_map (get g.ID.PartialEq.eq l.index_of) (take l.id-index l.id-items);
+  indices : l.indices.items ≡ filter_map (index_in g.ID.PartialEq.eq (g.M.NodeMap.entries l.index_of)) (take l.id-index l.id-items);
 }

@@ -1,5 +1,4 @@
 use Rattle.std.proofs.Common.{◌≡◌, ℕ, ◌<◌, map, length, get_or, sym, ◌∙◌, Some, None, is_some}
-use Rattle.std.specs.HashMap.{get}
 use Rattle.std.specs.List.{Contains, filter, filter_map}
 use Rattle.std.specs.Option.{MatchOption}
 use Rattle.std.proofs.lemmas.List.{length-map}
@@ -8,7 +7,7 @@ use Rattle.jj_walks.specs.Chunks.{IsChunkOfMany, IsChunkOfAnyGraph}
 use Rattle.jj_dag.specs.Expanding.{whole}
 use Rattle.jj_dag.specs.ReadyNodes.{index_graph, IsStuck}
 use Rattle.jj_walks.proofs.Chunks.{walk_inner, inner_items, inner_ids, explored, explored_nodes, inner_ok_graph, inner_nodes_closed, inner_collected, inner_linked, inner_reached, inner_cycle, many_chunk, many_stretch}
-use Rattle.jj_dag.specs.Collecting.{neighbor_indices}
+use Rattle.jj_dag.specs.Collecting.{index_in, neighbor_indices}
 use Rattle.jj_dag.proofs.GreatestOrder.{map_twice, order_is, cycle_is, index_reached}
 use Rattle.jj_walks.proofs.look_ahead.take_chunk.Goals as goal
 
@@ -20,9 +19,9 @@ returns g c = record {
       let p = c.in_ok-found.ensures.explored in
       let visited = p.0.visited in
       let q = c.in_ok-nodes.ensures in
-      let find = get g.ID.PartialEq.eq c.in_ok-found.found.index_of in
+      let find = index_in g.ID.PartialEq.eq c.explore.new.index_of.entries in
       let ids = map (λ v. v.items) c.in_ok-found.found.neighbor_ids.items in
-      let ts = neighbor_indices g.ID.PartialEq.eq c.in_ok-found.found in
+      let ts = neighbor_indices find c.in_ok-found.found in
       let indices : ts ≡ map (λ is. filter_map find is) ids = sym (map_twice (λ is. filter_map find is) (λ v. v.items) c.in_ok-found.found.neighbor_ids.items) in
       let sizes : length ids ≡ length visited = length-map c.in_ok-found.found.neighbor_ids.items (λ v. v.items) ∙ p.0.ids in
       let left = c.in_ok-found.left.items in

@@ -1,11 +1,11 @@
-use Rattle.std.proofs.Common.{rules, arith, ◌≡◌, [], refl, sym, ◌∙◌, ap, map, length, Some}
+use Rattle.std.proofs.Common.{rules, arith, ◌≡◌, [], refl, sym, ◌∙◌, ap, map, length, Some, is_some}
 use Rattle.std.proofs.lemmas.Grind.{common_steps}
 use Rattle.std.proofs.lemmas.List.{length-map, map_push}
 use Rattle.std.proofs.lemmas.Result.{err_from_is_err_and}
-use Rattle.std.specs.HashMap.{get}
 use Rattle.jj_dag.proofs.Collecting.{are_nodes, collecting_entered, collecting_passed, collecting_starts, some_of, top_reached}
 use Rattle.jj_dag.proofs.Errors.{node_weaker}
 use Rattle.jj_dag.proofs.Expanding.{fails_before, filled_more, implements-more, implements-none, ids_told, whole_listed}
+use Rattle.jj_dag.specs.Collecting.{index_in}
 use Rattle.jj_dag.specs.Expanding.{whole}
 use Rattle.jj_dag.proofs.ClosureGraphs.{returns_id}
 use Rattle.jj_dag.proofs.Wrapped.{all_sound}
@@ -16,19 +16,19 @@ use Rattle.jj_dag.proofs.closures.Closures.collect.Goals as goal
 
 pub loop-node-init : goal.loop-node-init
 loop-node-init g c = record {
-  graph = implements-none g.ID.PartialEq.eq g.F.Fn g.N.FnMut g.NI.IntoIterator g.NI.IntoIter.Iterator _ c.requires;
+  graph = implements-none g.ID.PartialEq.eq g.F.Fn g.N.FnMut g.NI.IntoIterator g.NI.IntoIter.Iterator _ c.requires.graph;
   found = (
-    record { visited = []; nodes = c.new-found.ensures.nodes; ids = ap length c.new-found.ensures.ids; indices = λ i k found. let none = rw (c.new-found.ensures.indices i) at found in absurd cc },
+    record { visited = []; nodes = c.new-found.ensures.nodes; ids = ap length c.new-found.ensures.ids; indices = λ i k found. let none = rw c.requires.none_indexed at found in absurd cc },
     λ walk implemented nodes. collecting_starts walk (whole walk) c.args.start.items c.args.start.items [] (map (λ v. v.items) c.new-found.result.neighbor_ids.items) _ refl refl
-        (ap (map (λ v. v.items)) c.new-found.ensures.ids) c.new-found.ensures.indices,
+        (ap (map (λ v. v.items)) c.new-found.ensures.ids) (λ i. rw c.requires.none_indexed refl),
   );
 }
 
-pub loop-node-preserved-then-contains_key : goal.loop-node-preserved-then-contains_key
-loop-node-preserved-then-contains_key g c =
+pub loop-node-preserved-then-is_some : goal.loop-node-preserved-then-is_some
+loop-node-preserved-then-is_some g c =
     let before = c.loop-node.invariant in
     let node = c.in-Some.node in
-    let found = some_of (get g.ID.PartialEq.eq c.loop-node.found.index_of c.in_ok-id.id) c.if-contains_key.ensures in
+    let found = some_of (index_in g.ID.PartialEq.eq (g.M.NodeMap.entries c.loop-node.index_of) c.in_ok-id.id) (c.if-is_some.ensures ∙ ap is_some c.get.ensures) in
     record {
       graph = before.graph;
       found = of_collected before.found (λ from walk implemented nodes.
@@ -44,8 +44,8 @@ loop-node-preserved g c =
     let id = c.in_ok-id.id in
     let told = rw before.graph.id_fn at (returns_id g.F.Fn c.id_fn.ensures c.in_ok-id.was) in
     let below = c.in_ok-neighbors.neighbors.items in
-    let missed = none_is (get g.ID.PartialEq.eq c.loop-node.found.index_of id) (sym c.if-contains_key.ensures) in
-    let more = filled_more g.ID.PartialEq.eq c.loop-node.found c.add_node.new.self node id c.in_ok-ids.ids before.found.0 c.in_ok-add_node.ensures.nodes c.in_ok-add_node.ensures.ids c.in_ok-add_node.ensures.indices in
+    let missed = none_is (index_in g.ID.PartialEq.eq (g.M.NodeMap.entries c.loop-node.index_of) id) (sym (c.if-is_some.ensures ∙ ap is_some c.get.ensures)) in
+    let more = filled_more g.ID.PartialEq.eq _ _ c.loop-node.found c.add_node.new.self node id c.in_ok-ids.ids before.found.0 c.in_ok-add_node.ensures.nodes c.in_ok-add_node.ensures.ids c.in_ok-add_node.ensures.indices in
     let graph = implements-more g.ID.PartialEq.eq g.F.Fn g.N.FnMut g.NI.IntoIterator g.NI.IntoIter.Iterator c.args.self.now c.loop-node.self c.neighbors.new.self before.graph c.neighbors.ensures.graph in
     record {
       graph = graph;

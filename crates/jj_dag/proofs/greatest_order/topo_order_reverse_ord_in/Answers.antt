@@ -4,7 +4,7 @@ use Rattle.jj_dag.specs.Expanding.{whole}
 use Rattle.jj_dag.proofs.IndexedGraph.{beside_cycle, whole_order}
 use Rattle.jj_dag.proofs.Errors.{node_weaker}
 use Rattle.jj_dag.proofs.Wrapped.{all_sound}
-use Rattle.jj_dag.proofs.greatest_order.topo_order_reverse_ord.Goals as goal
+use Rattle.jj_dag.proofs.greatest_order.topo_order_reverse_ord_in.Goals as goal
 
 pub returns-in_err-nodes-clause-error : goal.returns-in_err-nodes-clause-error
 returns-in_err-nodes-clause-error g c =
@@ -26,7 +26,7 @@ returns-in-Some-clause-error g c =
       holds = record {
         starts = c.in_ok-nodes.nodes.items;
         yielded = c.in_ok-nodes.ensures.nodes;
-        holds = λ walk implemented nodes. beside_cycle walk (whole walk) g.T.Ord.cmp g.ID.PartialEq.eq c.in_ok-found.found p.0 _ (λ a. all_sound _ (walk.graph a)) implemented.closed nodes (p.1 walk implemented nodes) (c.in_ok-order.order, c.in_ok-order.left) c.in_ok-order.ensures c.in-Some.node c.in-Some.is;
+        holds = λ walk implemented nodes. beside_cycle walk (whole walk) g.T.Ord.cmp _ c.in_ok-found.found p.0 _ (λ a. all_sound _ (walk.graph a)) implemented.closed nodes (p.1 walk implemented nodes) (c.in_ok-order.order, c.in_ok-order.left) c.in_ok-order.ensures c.in-Some.node c.in-Some.is;
       };
     })
 
@@ -36,14 +36,14 @@ returns-in-None-clause-order g c =
     record {
       starts = c.in_ok-nodes.nodes.items;
       yielded = c.in_ok-nodes.ensures.nodes;
-      holds = λ walk implemented nodes. whole_order walk (whole walk) g.T.Ord.cmp g.ID.PartialEq.eq c.in_ok-found.found p.0 _ (λ a. all_sound _ (walk.graph a)) implemented.closed nodes (p.1 walk implemented nodes) (c.in_ok-order.order, c.in_ok-order.left) c.in_ok-order.ensures c.in-None.is;
+      holds = λ walk implemented nodes. whole_order walk (whole walk) g.T.Ord.cmp _ c.in_ok-found.found p.0 _ (λ a. all_sound _ (walk.graph a)) implemented.closed nodes (p.1 walk implemented nodes) (c.in_ok-order.order, c.in_ok-order.left) c.in_ok-order.ensures c.in-None.is;
     }
 
 pub collect_ok-requires : goal.collect_ok-requires
 collect_ok-requires g c = c.requires.start
 
-pub collect-requires : goal.collect-requires
-collect-requires g c = record { id_fn = c.requires.graph.id_fn; neighbors_fn = c.requires.graph.neighbors_fn; lists = c.requires.graph.lists }
+pub collect-requires-clause-graph : goal.collect-requires-clause-graph
+collect-requires-clause-graph g c = record { id_fn = c.requires.graph.id_fn; neighbors_fn = c.requires.graph.neighbors_fn; lists = c.requires.graph.lists }
 
 pub into_greatest_order-requires : goal.into_greatest_order-requires
 into_greatest_order-requires g c = c.in_ok-found.ensures.collected.0
