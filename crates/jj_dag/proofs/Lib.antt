@@ -11,6 +11,7 @@ pub mod Heads
 pub mod TakingReady
 pub mod ReadyOrders
 pub mod Linking
+pub mod PackedLists
 pub mod Collecting
 pub mod Relabelled
 pub mod GreatestOrder

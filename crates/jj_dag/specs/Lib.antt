@@ -20,4 +20,5 @@ pub mod NodeMaps
 pub mod NodeSets
 pub mod DenseSets
 pub mod HeadsSearch
+pub mod PackedLists
 pub mod NodeGraph

@@ -9,11 +9,13 @@ ghost use Rattle.jj_dag.specs.ClosureGraph.{InEachModel, IsInputError, IsMadeBes
 ghost use Rattle.jj_dag.specs.GreatestOrder.{IsGreatestOrder};
 ghost use Rattle.jj_dag.specs.NodeMaps.{UpdatesEntry};
 ghost use Rattle.jj_dag.specs.Outcomes.{IfFails};
+ghost use Rattle.jj_dag.specs.PackedLists.{lists_of};
 ghost use Rattle.jj_dag.specs.ReadyNodes.{TakesGreatestFirst, in_degree, index_graph};
 
 use crate::closures::Closures;
 use crate::collect_ok::collect_ok;
 use crate::node_map::NodeMap;
+use crate::packed_lists::PackedLists;
 use crate::walk_error::WalkError;
 use std::alloc::{AllocError, Global};
 use std::collections::{BinaryHeap, HashMap};
@@ -192,20 +194,19 @@ fn link<ID: Eq + Drop, M: NodeMap<ID, usize>>(
     alloc: Global,
     index_of: &M,
     neighbor_ids: &[Vec<ID>],
-) -> Result<(Vec<Vec<usize>>, Vec<usize>), AllocError>
+) -> Result<(PackedLists, Vec<usize>), AllocError>
     requires { (i : ID) (k : ℕ) → index_in ID.eq (M.entries index_of.now) i ≡ Some k
         → k < length neighbor_ids.now }
-    ensures targets { IfOk result (λ r. map (λ v. v.items) r.0.items
+    ensures targets { IfOk result (λ r. lists_of r.0
         ≡ map (λ v. filter_map (index_in ID.eq (M.entries index_of.now)) v.items)
         neighbor_ids.now) }
     ensures counts { IfOk result (λ r. length r.1.items ≡ length neighbor_ids.now) }
     ensures indegrees { IfOk result (λ r. (k : ℕ) → k < length neighbor_ids.now
-        → slice_index r.1.items k ≡ in_degree (map (λ v. v.items) r.0.items) k) }
+        → slice_index r.1.items k ≡ in_degree (lists_of r.0) k) }
 {
     let mut indegrees: Vec<usize> = vec![in alloc; 0; neighbor_ids.len()]?;
-    let mut targets = Vec::new(alloc);
+    let mut targets = PackedLists::new(alloc);
     for ids in neighbor_ids {
-        let mut indices = Vec::new(alloc);
         for id in ids {
             if let Some(index) = index_of.get(id) {
                 // More edges than a `usize` counts do not fit into memory.
@@ -213,10 +214,10 @@ fn link<ID: Eq + Drop, M: NodeMap<ID, usize>>(
                     return Err(AllocError);
                 };
                 indegrees[index] = count;
-                indices.push(index)?;
+                targets.push(index)?;
             }
         }
-        targets.push(indices)?;
+        targets.finish_list()?;
     }
     Ok((targets, indegrees))
 }
@@ -226,19 +227,18 @@ fn link<ID: Eq + Drop, M: NodeMap<ID, usize>>(
 fn take_greatest_first<T: Ord + Drop>(
     alloc: Global,
     mut pending: Vec<Option<T>>,
-    targets: &[Vec<usize>],
+    targets: &PackedLists,
     mut indegrees: Vec<usize>,
 ) -> Result<(Vec<T>, Option<T>), AllocError>
     requires present { (k : ℕ) → k < length pending.items
         → IsSome (slice_index_or pending.items k None) }
-    requires lists { length targets.now ≡ length pending.items }
+    requires lists { length (lists_of targets.now) ≡ length pending.items }
     requires counts { length indegrees.items ≡ length pending.items }
-    requires within { (a b : ℕ) → Contains (index_graph (map (λ ts. ts.items) targets.now) a) b
+    requires within { (a b : ℕ) → Contains (index_graph (lists_of targets.now) a) b
         → b < length pending.items }
     requires indegrees { (k : ℕ) → k < length pending.items
-        → slice_index indegrees.items k ≡ in_degree (map (λ ts. ts.items) targets.now) k }
-    ensures { IfOk result (TakesGreatestFirst T.cmp pending.items
-        (map (λ ts. ts.items) targets.now)) }
+        → slice_index indegrees.items k ≡ in_degree (lists_of targets.now) k }
+    ensures { IfOk result (TakesGreatestFirst T.cmp pending.items (lists_of targets.now)) }
 {
     let mut ready = BinaryHeap::new(alloc);
     for index in 0..indegrees.len() {
@@ -249,7 +249,7 @@ fn take_greatest_first<T: Ord + Drop>(
     let mut order = Vec::new(alloc);
     while let Some((node, index)) = ready.pop() {
         order.push(node)?;
-        for target in &targets[index] {
+        for target in targets.list(index) {
             let target = *target;
             indegrees[target] -= 1;
             if indegrees[target] == 0 {

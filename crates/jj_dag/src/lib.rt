@@ -17,5 +17,6 @@ mod maximal;
 mod maximal_lists;
 pub mod node_map;
 pub mod node_set;
+mod packed_lists;
 mod topo_order;
 pub mod walk_error;

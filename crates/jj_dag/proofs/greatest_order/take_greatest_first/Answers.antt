@@ -1,8 +1,9 @@
-use Rattle.std.proofs.Common.{drop, rules, ◌≡◌, ℕ, ◌<◌, ◌∷◌, List, map, length, IsSome, [], ◌++◌, arith, refl, sym, ◌∙◌, ap, None, get_or, set, ◌≢◌, inl, inr}
+use Rattle.std.proofs.Common.{drop, rules, ◌≡◌, ℕ, ◌<◌, ◌∷◌, List, length, IsSome, [], ◌++◌, arith, refl, sym, ◌∙◌, ap, None, get_or, set, ◌≢◌, inl, inr}
 use Rattle.std.specs.List.{Contains}
 use Rattle.std.specs.BinaryHeap.{heap_items}
+use Rattle.jj_dag.specs.PackedLists.{lists_of}
 use Rattle.jj_dag.proofs.TakingReady.{sorting_kept, sorting_taken, taking_starts, taking_popped, popped_index, popped_above, picked_push, read_is, edge_counts, edge_kept, edge_readied, left_is, taken_all, none_is}
-use Rattle.std.proofs.lemmas.List.{drop_all, length-map, get_or-map, nil_from_length, get_or_default}
+use Rattle.std.proofs.lemmas.List.{drop_all, nil_from_length, get_or_default}
 use Rattle.std.proofs.lemmas.Bool.{cases_eq}
 use Rattle.std.proofs.lemmas.List.Elements.{Contains-get_or}
 use Rattle.jj_dag.proofs.greatest_order.take_greatest_first.Goals as goal
@@ -38,39 +39,29 @@ loop-node-init g c =
         _,
         rw (c.new-order.ensures.items) refl,
         taking_starts _ _ _ c.args.indegrees.items (rw (← all) before.sorting) c.requires.counts
-            (length-map c.args.targets.now (λ ts. ts.items) ∙ c.requires.lists) c.requires.indegrees,
+            c.requires.lists c.requires.indegrees,
       );
     }
 
-pub offset_bounds-targets-index : goal.offset_bounds-targets-index
-offset_bounds-targets-index g c =
+pub list-target-items-requires : goal.list-target-items-requires
+list-target-items-requires g c =
     let p = c.loop-node.invariant.taking in
-    let index = popped_index g.T.Ord.cmp c.args.pending.items (map (λ ts. ts.items) c.args.targets.now) c.in-Some.node c.in-Some.index c.pop.new.self.data.items p.3 c.in-Some.ensures.permutation in
-    let lt : c.in-Some.index < length c.args.targets.now = omega arith in
-    omega arith
-
-pub bounds-targets-index : goal.bounds-targets-index
-bounds-targets-index g c =
-    let p = c.loop-node.invariant.taking in
-    let index = popped_index g.T.Ord.cmp c.args.pending.items (map (λ ts. ts.items) c.args.targets.now) c.in-Some.node c.in-Some.index c.pop.new.self.data.items p.3 c.in-Some.ensures.permutation in
+    let index = popped_index g.T.Ord.cmp c.args.pending.items (lists_of c.args.targets.now) c.in-Some.node c.in-Some.index c.pop.new.self.data.items p.3 c.in-Some.ensures.permutation in
     omega arith
 
 pub loop-target-init : goal.loop-target-init
 loop-target-init g c =
     let p = c.loop-node.invariant.taking in
     let popped = c.in-Some.ensures.heap_order c.loop-node.invariant.heap_order in
-    let index = popped_index g.T.Ord.cmp c.args.pending.items (map (λ ts. ts.items) c.args.targets.now) c.in-Some.node c.in-Some.index c.pop.new.self.data.items p.3 c.in-Some.ensures.permutation in
-    let lt : c.in-Some.index < length c.args.targets.now = omega arith in
-    let list : c.deref-target-items.result.now ≡ get_or (map (λ ts. ts.items) c.args.targets.now) c.in-Some.index [] =
-    c.deref-target-items.ensures.value ∙ ap (λ v. v.items) c.index-targets-index.is ∙ sym (get_or-map (λ v. v.items) c.args.targets.now c.in-Some.index c.index-targets-index.result [] lt) in
+    let index = popped_index g.T.Ord.cmp c.args.pending.items (lists_of c.args.targets.now) c.in-Some.node c.in-Some.index c.pop.new.self.data.items p.3 c.in-Some.ensures.permutation in
     record {
       heap_order = popped.0;
-      list = list;
+      list = c.list-target-items.ensures;
       taking = (
         p.0 ++ c.in-Some.index ∷ [],
         set p.1 c.in-Some.index [],
-        picked_push g.T.Ord.cmp c.args.pending.items (map (λ ts. ts.items) c.args.targets.now) c.loop-node.order.items c.push.new.self.items p.0 c.in-Some.node c.in-Some.index p.2 index.1 c.in_ok-push.ensures.items,
-        rw list (taking_popped g.T.Ord.cmp c.args.pending.items (map (λ ts. ts.items) c.args.targets.now) c.in-Some.node c.in-Some.index c.pop.new.self.data.items p.3 c.in-Some.ensures.permutation (popped_above g.T.Ord.cmp c.args.pending.items (map (λ ts. ts.items) c.args.targets.now) c.in-Some.node c.in-Some.index _ popped.1)),
+        picked_push g.T.Ord.cmp c.args.pending.items (lists_of c.args.targets.now) c.loop-node.order.items c.push.new.self.items p.0 c.in-Some.node c.in-Some.index p.2 index.1 c.in_ok-push.ensures.items,
+        rw c.list-target-items.ensures (taking_popped g.T.Ord.cmp c.args.pending.items (lists_of c.args.targets.now) c.in-Some.node c.in-Some.index c.pop.new.self.data.items p.3 c.in-Some.ensures.permutation (popped_above g.T.Ord.cmp c.args.pending.items (lists_of c.args.targets.now) c.in-Some.node c.in-Some.index _ popped.1)),
       );
     }
 
@@ -82,34 +73,34 @@ pub index_mut-requires : goal.index_mut-requires
 index_mut-requires g c =
     let before = c.loop-target.invariant in
     let n : length c.loop-target.indegrees.items ≡ length c.args.pending.items = before.taking.3.counters in
-    let lt = next_target c.deref-target-items.result.now c.loop-target.target-index (length c.args.pending.items) (omega arith) (λ b h. c.requires.within c.in-Some.index b (rw before.list at h)) in
+    let lt = next_target c.list-target-items.result.now c.loop-target.target-index (length c.args.pending.items) (omega arith) (λ b h. c.requires.within c.in-Some.index b (rw before.list at h)) in
     omega arith
 
 pub overflow_sub-index_mut : goal.overflow_sub-index_mut
 overflow_sub-index_mut g c =
     let before = c.loop-target.invariant in
     let n : length c.loop-target.indegrees.items ≡ length c.args.pending.items = before.taking.3.counters in
-    let lt = next_target c.deref-target-items.result.now c.loop-target.target-index (length c.args.pending.items) (omega arith) (λ b h. c.requires.within c.in-Some.index b (rw before.list at h)) in
-    edge_counts g.T.Ord.cmp c.args.pending.items (map (λ ts. ts.items) c.args.targets.now) c.deref-target-items.result.now c.loop-target.target-index c.index_mut.result.now before.taking.3 (omega arith) lt c.index_mut.ensures.value
+    let lt = next_target c.list-target-items.result.now c.loop-target.target-index (length c.args.pending.items) (omega arith) (λ b h. c.requires.within c.in-Some.index b (rw before.list at h)) in
+    edge_counts g.T.Ord.cmp c.args.pending.items (lists_of c.args.targets.now) c.list-target-items.result.now c.loop-target.target-index c.index_mut.result.now before.taking.3 (omega arith) lt c.index_mut.ensures.value
 
 pub index-requires-in-loop-target : goal.index-requires-in-loop-target
 index-requires-in-loop-target g c =
     let before = c.loop-target.invariant in
     let n : length c.loop-target.indegrees.items ≡ length c.args.pending.items = before.taking.3.counters in
-    let lt = next_target c.deref-target-items.result.now c.loop-target.target-index (length c.args.pending.items) (omega arith) (λ b h. c.requires.within c.in-Some.index b (rw before.list at h)) in
+    let lt = next_target c.list-target-items.result.now c.loop-target.target-index (length c.args.pending.items) (omega arith) (λ b h. c.requires.within c.in-Some.index b (rw before.list at h)) in
     omega arith
 
 pub make_ready-requires-then-index-eq0-2 : goal.make_ready-requires-then-index-eq0-2
 make_ready-requires-then-index-eq0-2 g c =
     let before = c.loop-target.invariant in
     let n : length c.loop-target.pending.items ≡ length c.args.pending.items = before.taking.3.queued in
-    let lt = next_target c.deref-target-items.result.now c.loop-target.target-index (length c.args.pending.items) (omega arith) (λ b h. c.requires.within c.in-Some.index b (rw before.list at h)) in
+    let lt = next_target c.list-target-items.result.now c.loop-target.target-index (length c.args.pending.items) (omega arith) (λ b h. c.requires.within c.in-Some.index b (rw before.list at h)) in
     omega arith
 
 pub loop-target-preserved : goal.loop-target-preserved
 loop-target-preserved g c =
     let before = c.loop-target.invariant in
-    let lt = next_target c.deref-target-items.result.now c.loop-target.target-index (length c.args.pending.items) (omega arith) (λ b h. c.requires.within c.in-Some.index b (rw before.list at h)) in
+    let lt = next_target c.list-target-items.result.now c.loop-target.target-index (length c.args.pending.items) (omega arith) (λ b h. c.requires.within c.in-Some.index b (rw before.list at h)) in
     record {
       heap_order = elim c.if-index-eq0-2.branch [
         | then-index-eq0-2+in_ok-make_ready-2 w ↦ rw (w.ready-is) (w.in_ok-make_ready-2.ensures.heap_order before.heap_order)
@@ -124,11 +115,11 @@ loop-target-preserved g c =
           | then-index-eq0-2+in_ok-make_ready-2 w ↦
               let a = w.in_ok-make_ready-2.ensures in
               rw (w.pending-is, w.ready-is)
-              (edge_readied g.T.Ord.cmp c.args.pending.items (map (λ ts. ts.items) c.args.targets.now) c.deref-target-items.result.now c.loop-target.target-index c.index_mut.result.now c.index-in-loop-target.result.now _ _ before.taking.3 (omega arith) lt
+              (edge_readied g.T.Ord.cmp c.args.pending.items (lists_of c.args.targets.now) c.list-target-items.result.now c.loop-target.target-index c.index_mut.result.now c.index-in-loop-target.result.now _ _ before.taking.3 (omega arith) lt
               c.index_mut.ensures.value c.index-in-loop-target.ensures w.if-index-eq0-2.true (c.requires.present _ lt) a.pending a.ready)
           | else-index-eq0-2 w ↦
               rw (w.pending-is, w.ready-is)
-              (edge_kept g.T.Ord.cmp c.args.pending.items (map (λ ts. ts.items) c.args.targets.now) c.deref-target-items.result.now c.loop-target.target-index c.index_mut.result.now c.index-in-loop-target.result.now before.taking.3 (omega arith) lt
+              (edge_kept g.T.Ord.cmp c.args.pending.items (lists_of c.args.targets.now) c.list-target-items.result.now c.loop-target.target-index c.index_mut.result.now c.index-in-loop-target.result.now before.taking.3 (omega arith) lt
               c.index_mut.ensures.value c.index-in-loop-target.ensures w.if-index-eq0-2.false)
         ],
       );
@@ -148,7 +139,7 @@ returns-then-is_some g c =
     let read : get_or c.loop-node.pending.items c.loop-left.left None ≡ c.swap_remove.result = ap (λ l. get_or l c.loop-left.left None) (sym same) ∙ get_or_default c.loop-left.pending.items c.loop-left.left None c.swap_remove.result within ∙ sym c.swap_remove.ensures.value in
     let seen : c.index-in-loop-left.result.now ≡ c.swap_remove.result = c.index-in-loop-left.ensures ∙ get_or_default c.loop-left.pending.items c.loop-left.left c.index-in-loop-left.result.now c.swap_remove.result within ∙ sym c.swap_remove.ensures.value in
     let some : IsSome c.index-in-loop-left.result.now = sym c.is_some.ensures ∙ c.if-is_some.true in
-    (p.0, p.2, p.3.takes, left_is g.T.Ord.cmp c.args.pending.items (map (λ ts. ts.items) c.args.targets.now) empty p.3 c.loop-left.left c.swap_remove.result (omega arith) read (rw seen at some))
+    (p.0, p.2, p.3.takes, left_is g.T.Ord.cmp c.args.pending.items (lists_of c.args.targets.now) empty p.3 c.loop-left.left c.swap_remove.result (omega arith) read (rw seen at some))
 
 pub loop-left-preserved : goal.loop-left-preserved
 loop-left-preserved g c = record {
@@ -173,7 +164,7 @@ returns g c =
     let ok = c.loop-node.ready.data.ok in
     let nothing : length c.loop-node.ready.data.items ≡ 0 = omega arith in
     let empty : heap_items c.loop-node.ready ≡ [] = nil_from_length _ nothing in
-    (p.0, p.2, p.3.takes, taken_all g.T.Ord.cmp c.args.pending.items (map (λ ts. ts.items) c.args.targets.now) empty p.3 c.requires.present (λ k lt. rw (← same) (c.loop-left.invariant.gone k (omega arith))))
+    (p.0, p.2, p.3.takes, taken_all g.T.Ord.cmp c.args.pending.items (lists_of c.args.targets.now) empty p.3 c.requires.present (λ k lt. rw (← same) (c.loop-left.invariant.gone k (omega arith))))
 
 pub loop-index-init : goal.loop-index-init
 loop-index-init g c = search rules
@@ -193,7 +184,7 @@ loop-node-smaller g c = search rules
 pub loop-node-preserved : goal.loop-node-preserved
 loop-node-preserved g c =
     let before = c.loop-target.invariant in
-    let none : drop c.loop-target.target-index c.deref-target-items.result.now ≡ [] = drop_all c.loop-target.target-index c.deref-target-items.result.now (omega arith) in
+    let none : drop c.loop-target.target-index c.list-target-items.result.now ≡ [] = drop_all c.loop-target.target-index c.list-target-items.result.now (omega arith) in
     record { heap_order = before.heap_order; taking = (before.taking.0, before.taking.1, before.taking.2, rw none at before.taking.3) }
 
 pub offset_bounds-target-items-target-index : goal.offset_bounds-target-items-target-index
