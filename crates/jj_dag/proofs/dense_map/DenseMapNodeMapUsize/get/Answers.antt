@@ -1,13 +1,6 @@
-use Rattle.std.proofs.Common.{rules, arith, ◌≡◌, ◌++◌, ◌∷◌, [], ◌<◌, ◌∙◌, None, Some, ap, eqb, false, get_or, is_some, length, set, subst, sym, true≢false}
-use Rattle.std.specs.Map.{keys_of, lookup}
-use Rattle.std.specs.Prelude.{is_ok}
-use Rattle.std.specs.Set.{is_member}
-use Rattle.std.specs.List.Sorted.{IsPermutation}
+use Rattle.std.proofs.Common.{rules, arith, ◌≡◌, ◌∙◌, Some, ap, get_or, sym}
 use Rattle.std.proofs.lemmas.Map.Entries.{length-keys_of}
-use Rattle.jj_dag.specs.DenseSets.{IsSparseSet}
-use Rattle.jj_dag.specs.NodeMaps.{UpdatesEntry}
-use Rattle.jj_dag.proofs.DenseMaps.{has, keys_same, missing, indexed_kept, indexed_pushed, set_value-missing, sets, updates_pushed, updates_set}
-use Rattle.jj_dag.proofs.DenseSets.{pushed}
+use Rattle.jj_dag.proofs.DenseMaps.{has, missing}
 use Rattle.jj_dag.proofs.dense_map.DenseMapNodeMapUsize.get.Goals as goal
 
 pub returns-in-Some : goal.returns-in-Some

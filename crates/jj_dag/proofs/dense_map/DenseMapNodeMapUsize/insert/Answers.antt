@@ -1,12 +1,11 @@
-use Rattle.std.proofs.Common.{rules, arith, ◌≡◌, ◌++◌, ◌∷◌, [], ◌<◌, ◌∙◌, None, Some, ap, eqb, false, get_or, is_some, length, set, subst, sym, true≢false}
-use Rattle.std.specs.Map.{keys_of, lookup}
+use Rattle.std.proofs.Common.{rules, arith, ◌≡◌, ◌++◌, ◌∷◌, [], ◌<◌, ◌∙◌, Some, ap, eqb, get_or, is_some, length, subst, sym}
+use Rattle.std.specs.Map.{keys_of}
 use Rattle.std.specs.Prelude.{is_ok}
-use Rattle.std.specs.Set.{is_member}
 use Rattle.std.specs.List.Sorted.{IsPermutation}
 use Rattle.std.proofs.lemmas.Map.Entries.{length-keys_of}
 use Rattle.jj_dag.specs.DenseSets.{IsSparseSet}
 use Rattle.jj_dag.specs.NodeMaps.{UpdatesEntry}
-use Rattle.jj_dag.proofs.DenseMaps.{has, keys_same, missing, indexed_kept, indexed_pushed, set_value-missing, sets, updates_pushed, updates_set}
+use Rattle.jj_dag.proofs.DenseMaps.{has, keys_same, missing, indexed_kept, indexed_pushed, sets, updates_pushed, updates_set}
 use Rattle.jj_dag.proofs.DenseSets.{pushed}
 use Rattle.jj_dag.proofs.dense_map.DenseMapNodeMapUsize.insert.Goals as goal
 
