@@ -214,7 +214,7 @@ fn push_answer(
 {
     match request {
         GraphRequest::Order(ids) => {
-            let order = greatest_order(alloc, graph, ids)?;
+            let order = greatest_order(alloc, visited, graph, ids)?;
             push_numbers(output, "order", &order)
         }
         GraphRequest::Heads(ids) => {

@@ -13,7 +13,7 @@ ghost use Rattle.jj_program.specs.GraphCommand.{HasCycle};
 
 use crate::listed_graph::ListedGraph;
 use jj_dag::dag_walk::{WalkError, heads_in, topo_order_forward_in};
-use jj_dag::dag_walk_async::{NodeState, closest_common_nodes_in, topo_order_reverse_ord};
+use jj_dag::dag_walk_async::{NodeState, closest_common_nodes_in, topo_order_reverse_ord_in};
 use jj_dag::dense_map::DenseMap;
 use jj_dag::dense_set::DenseSet;
 use std::alloc::{AllocError, Global};
@@ -30,7 +30,7 @@ fn sound_neighbors_of(
     Ok(graph.neighbors_of(node).iter().copied())
 }
 
-// Iterates over nodes in the fallible form that `topo_order_reverse_ord` takes.
+// Iterates over nodes in the fallible form that `topo_order_reverse_ord_in` takes.
 #[derive(Drop)]
 struct SoundNodes<'a> {
     nodes: &'a [usize],
@@ -60,12 +60,13 @@ fn sound_items_of(graph: &ListedGraph, node: usize) -> SoundNodes<'_>
     }
 }
 
-// Sets and a map of nodes that all requests share. They are cleared in constant time.
+// Sets and maps of nodes that all requests share. They are cleared in constant time.
 #[derive(Drop)]
 pub(crate) struct Visited {
     heads: DenseSet,
     visited: DenseSet,
     known: DenseMap<NodeState>,
+    index_of: DenseMap<usize>,
 }
 
 impl Visited {
@@ -74,6 +75,7 @@ impl Visited {
             heads: DenseSet::new(alloc),
             visited: DenseSet::new(alloc),
             known: DenseMap::new(alloc),
+            index_of: DenseMap::new(alloc),
         }
     }
 }
@@ -106,6 +108,7 @@ pub(crate) fn has_cycle(alloc: Global, graph: &ListedGraph) -> Result<bool, Allo
 // Returns the lexicographically greatest topological order of the nodes reachable from `ids`.
 pub(crate) fn greatest_order(
     alloc: Global,
+    visited: &mut Visited,
     graph: &ListedGraph,
     ids: &[u64],
 ) -> Result<Vec<u64>, AllocError>
@@ -115,8 +118,10 @@ pub(crate) fn greatest_order(
         (shown_by graph.now) ids.now order.items) }
 {
     let starts = graph.numbers_of(alloc, ids)?;
-    let order = topo_order_reverse_ord(
+    visited.index_of.clear();
+    let order = topo_order_reverse_ord_in(
         alloc,
+        &mut visited.index_of,
         SoundNodes { nodes: &starts },
         |node: &usize| Ok(*node),
         |node: &usize| sound_items_of(graph, *node),

@@ -12,8 +12,8 @@ use Rattle.jj_program.proofs.NumberedWalks.{all_within, nodes_among, numbers_ord
 use Rattle.jj_program.proofs.ListedGraphs.{no_beginning, given_nodes}
 use Rattle.jj_program.proofs.graph_walks.greatest_order.Goals as goal
 
-pub topo_order_reverse_ord-order-requires-clause-graph : goal.topo_order_reverse_ord-order-requires-clause-graph
-topo_order_reverse_ord-order-requires-clause-graph c = record {
+pub topo_order_reverse_ord_in-order-requires-clause-graph : goal.topo_order_reverse_ord_in-order-requires-clause-graph
+topo_order_reverse_ord_in-order-requires-clause-graph c = record {
   id_fn = search rules;
   neighbors_fn = search (rules, of_calls);
   lists = always_returns_same _ _ _ (λ a r f h. (λ it b. (search rules, search rules), search (rules, of_calls, h)));
