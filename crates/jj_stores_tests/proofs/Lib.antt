@@ -1,2 +1,3 @@
 mod TakenItems
 mod IdMaps
+mod KeptValues

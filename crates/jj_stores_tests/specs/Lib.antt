@@ -1,1 +1,2 @@
 pub mod MemoryStores
+pub mod OnlyMatches

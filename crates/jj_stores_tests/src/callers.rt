@@ -1,27 +1,31 @@
 //! Proved callers of signers, stores, views and joins.
-ghost use Rattle.std.specs.Prelude.{◌≡◌, ◌≤◌, ◌∷◌, [], ◌⊎◌, true, false, Some, None, IsNone, OnErr, IfOk, IfErr, length, map};
+ghost use Rattle.std.specs.Prelude.{◌≡◌, ◌≤◌, ◌∷◌, [], ◌⊎◌, ℕ, true, false, List, Some, None, IsNone, IsSomeAnd, MatchOption, OnErr, IfOk, IfErr, length, map};
 ghost use Rattle.std.specs.List.{list_any};
 ghost use Rattle.std.specs.Map.{lookup};
 ghost use Rattle.std.specs.Str.{bytes_eq};
 ghost use Rattle.jj_stores.specs.FirstDecisive.{backends};
 ghost use Rattle.jj_stores.specs.FlatRefs.{IsFlattened, symbol_ref_of};
 ghost use Rattle.jj_stores.specs.JoinSteps.{row_of};
+ghost use Rattle.jj_stores.specs.OperationLaws.{operation_eq};
 ghost use Rattle.jj_stores.specs.OpStores.{is_not_found};
 ghost use Rattle.jj_stores.specs.Signer.{cache_entries, capacity_of};
 ghost use Rattle.jj_stores.specs.Verdict.{Verdict, is_unknown};
 ghost use Rattle.jj_stores.specs.ViewJoins.{IsViewJoin};
 ghost use Rattle.jj_stores.specs.ViewLaws.{view_eq};
+ghost use Rattle.jj_stores_tests.specs.OnlyMatches.{IsOnlyMatch};
 
 use crate::memory_op_store::MemoryOpStore;
-use jj_ids::object_id::CommitId;
+use jj_backend::backend::MillisSinceEpoch;
+use jj_ids::object_id::{CommitId, HexPrefix, PrefixResolution};
 use jj_ids::ref_name::{RefName, RemoteRefSymbol};
 use jj_stores::op_store::{
-    LocalRemoteRefTarget, OpStore, OpStoreResult, RemoteRef, View, flatten_remote_refs,
-    merge_join_ref_views,
+    LocalRemoteRefTarget, OpStore, OpStoreError, OpStoreResult, Operation, RemoteRef, View,
+    flatten_remote_refs, merge_join_ref_views,
 };
 use jj_stores::signing::{SignError, SignResult, Signer, SigningBackend, Verification};
 use std::alloc::{AllocError, Global};
 use std::collections::HashSet;
+use std::slice;
 
 /// Verifies a cached commit: the result is the cached verification, for any data and signature.
 pub fn verify_again(
@@ -100,6 +104,83 @@ pub fn view_in_memory(alloc: Global, root: CommitId, view: &View) -> OpStoreResu
 {
     let mut store = MemoryOpStore::new(alloc, root)?;
     written_view(alloc, &mut store, view)
+}
+
+/// Stores an operation and a child of it, deletes all that the child does not reach, and reads the
+/// parent back: it equals the one stored, and an error is one that the store may fail with.
+pub fn parent_after_gc<S: OpStore>(
+    alloc: Global,
+    store: &mut S,
+    parent: &Operation,
+    mut child: Operation,
+    keep_newer: MillisSinceEpoch,
+) -> OpStoreResult<Operation>
+    ensures parent { IfOk result (λ read. operation_eq read parent.now ≡ true) }
+    ensures error { IfErr result (λ e. (e ≡ OpStoreError.Memory) ⊎ ((at : S) × S.may_fail at e)) }
+{
+    let parent_id = store.write_operation(alloc, parent)?;
+    child.parents.push(parent_id.clone()?)?;
+    let id = store.write_operation(alloc, &child)?;
+    store.gc(alloc, slice::from_ref(&id), keep_newer)?;
+    store.read_operation(alloc, &parent_id)
+}
+
+/// Stores a view and an operation that has it, deletes all that the operation does not reach, and
+/// reads the view back: it equals the one stored, and an error is one that the store may fail with.
+pub fn view_after_gc<S: OpStore>(
+    alloc: Global,
+    store: &mut S,
+    view: &View,
+    mut operation: Operation,
+    keep_newer: MillisSinceEpoch,
+) -> OpStoreResult<View>
+    ensures view { IfOk result (λ read. view_eq read view.now ≡ true) }
+    ensures error { IfErr result (λ e. (e ≡ OpStoreError.Memory) ⊎ ((at : S) × S.may_fail at e)) }
+{
+    let view_id = store.write_view(alloc, view)?;
+    operation.view_id = view_id.clone()?;
+    let id = store.write_operation(alloc, &operation)?;
+    store.gc(alloc, slice::from_ref(&id), keep_newer)?;
+    store.read_view(alloc, &view_id)
+}
+
+/// Stores a view and an operation that has it in a new in-memory store, deletes all that the
+/// operation does not reach, and reads the view back: it is never missing.
+pub fn view_kept_in_memory(
+    alloc: Global,
+    root: CommitId,
+    view: &View,
+    operation: Operation,
+    keep_newer: MillisSinceEpoch,
+) -> OpStoreResult<View>
+    ensures view { IfOk result (λ read. view_eq read view.now ≡ true) }
+    ensures error { IfErr result (λ e. is_not_found e ≡ false) }
+{
+    let mut store = MemoryOpStore::new(alloc, root)?;
+    view_after_gc(alloc, &mut store, view, operation, keep_newer)
+}
+
+/// Reads the operation whose id is the only one that the prefix matches. `None` means that it
+/// matches no id or several, and an error is one that the store may fail with.
+pub fn find_operation<S: OpStore>(
+    alloc: Global,
+    store: &S,
+    prefix: &HexPrefix,
+) -> OpStoreResult<Option<Operation>>
+    ensures found { IfOk result (λ found. MatchOption found
+        ((id : List ℕ) → ¬ IsOnlyMatch (S.operations store.now) prefix.now id)
+        (λ read. (id : List ℕ) × IsOnlyMatch (S.operations store.now) prefix.now id
+        × IsSomeAnd (S.operations store.now id) (λ stored. operation_eq read stored ≡ true))) }
+    ensures error { IfErr result (S.may_fail store.now) }
+{
+    match store.resolve_operation_id_prefix(alloc, prefix)? {
+        PrefixResolution::SingleMatch(id) => {
+            let operation = store.read_operation(alloc, &id)?;
+            Ok(Some(operation))
+        }
+        PrefixResolution::NoMatch => Ok(None),
+        PrefixResolution::AmbiguousMatch => Ok(None),
+    }
 }
 
 /// Returns the heads of a new repository: only its root commit.
