@@ -1,2 +1,4 @@
 mod ConflictTerms
 mod WrittenOutcomes
+mod MemoryFailures
+mod FirstCommits

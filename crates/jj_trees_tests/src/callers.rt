@@ -1,5 +1,5 @@
 //! Proved callers of the in-memory backend and of recursive tree merges.
-ghost use Rattle.std.specs.Prelude.{◌≡◌, ◌≢◌, ◌↔◌, ◌⊎◌, ℕ, List, [], length, Option, Some, AllPairs};
+ghost use Rattle.std.specs.Prelude.{◌≡◌, ◌≢◌, ◌↔◌, ◌⊎◌, ℕ, List, [], ◌∷◌, length, replicate, Option, Some, AllPairs};
 ghost use Rattle.std.specs.Prelude.{Contains, IfOk, IfErr, string_bytes};
 ghost use Rattle.jj_merges.specs.Merge.{HaveSameCounts, IsDisjoint};
 ghost use Rattle.jj_merges.specs.declared.merge.SameChange.TheVariants.{Accept};
@@ -11,11 +11,12 @@ ghost use Rattle.jj_trees.specs.TreeMerges.{IsConflict, IsMergeError, IsResolved
 ghost use Rattle.jj_trees.specs.TreeMerges.{values_at};
 ghost use Rattle.jj_trees.specs.WrittenTrees.{AddsTrees, IsTreeWriteError, stored_at};
 ghost use Rattle.jj_trees_tests.specs.Outcomes.{IsOutcome};
-ghost use Rattle.jj_trees_tests.specs.Writes.{IsWriteError};
+ghost use Rattle.jj_trees_tests.specs.Writes.{IsBackendFailure, IsWriteError};
 
 use crate::three_sides::side_values;
 use jj_backend::backend::{
-    Backend, BackendResult, Commit, CopyHistory, SigningFn, Tree, TreeId, TreeValue,
+    Backend, BackendError, BackendResult, ChangeId, Commit, CopyHistory, NoSigner, SigningFn, Tree,
+    TreeId, TreeValue, make_root_commit,
 };
 use jj_merges::conflict_labels::ConflictLabels;
 use jj_merges::laws::simplified_indices_laws;
@@ -93,6 +94,44 @@ pub fn merge_and_write<B: Backend>(
     let merge = merge_trees(alloc, backend, trees, &labels, SameChange::Accept)?;
     let chosen = side_values(alloc, &merge, side)?;
     write_back(alloc, backend, &merge, &chosen)
+}
+
+/// Writes a tree and a commit of it below the root commit, whose id is taken before the writes, and
+/// reads the commit back: its only parent is still the root commit, and its tree is the one
+/// written. An error is out of memory, or one that the backend may fail with.
+pub fn first_commit<B: Backend>(
+    alloc: Global,
+    backend: &mut B,
+    change_id: ChangeId,
+    tree: &Tree,
+) -> BackendResult<Commit>
+    ensures parent { IfOk result (λ read.
+        read.parents ≡ (B.fixed backend.new).root_commit_id ∷ []) }
+    ensures tree { IfOk result (λ read. (id : List ℕ) × (read.root_tree ≡ id ∷ [])
+        × ((B.objects backend.new).trees id ≡ Some tree.now)) }
+    ensures fixed { B.fixed backend.new ≡ B.fixed backend.old }
+    ensures error { IfErr result (λ e. (e ≡ BackendError.Memory)
+        ⊎ IsBackendFailure B.may_fail B.may_fail_to_write e) }
+{
+    let root = backend.root_commit_id().clone()?;
+    let tree_id = backend.write_tree(alloc, RepoPath::root(), tree)?;
+    let mut commit = make_root_commit(alloc, change_id, tree_id);
+    commit.parents.push(root)?;
+    let (id, _) = backend.write_commit(alloc, commit, None::<&mut NoSigner>)?;
+    backend.read_commit(alloc, &id)
+}
+
+/// Writes the first commit of a new in-memory backend: the id of its only parent is 64 zeros.
+pub fn first_commit_in_memory(
+    alloc: Global,
+    change_id: ChangeId,
+    tree: &Tree,
+) -> BackendResult<Commit>
+    ensures parent { IfOk result (λ read. read.parents ≡ replicate 64 0 ∷ []) }
+    ensures error { IfErr result IsWriteError }
+{
+    let mut backend = MemoryBackend::new(alloc)?;
+    first_commit(alloc, &mut backend, change_id, tree)
 }
 
 /// Writes a file and reads it back.
