@@ -10,6 +10,7 @@ pub mod Parts
 pub mod GraphViews
 pub mod ListedGraphs
 pub mod HashCommand
+pub mod HashViews
 pub mod Program
 pub mod Reports
 pub mod Laws

@@ -1,9 +1,10 @@
 //! The command `hash`: prints the BLAKE2b-512 digest of the content that each line describes.
-ghost use Rattle.std.specs.Prelude.{◌≡◌, ◌++◌, ℕ, List, Ok, IfOk, IfErr, OnOk, ok_or, option_map};
+ghost use Rattle.std.specs.Prelude.{◌≡◌, ◌++◌, ℕ, List, Ok, None, false, IfOk, IfErr, IsTrue, OnOk, ok_or, option_map};
 ghost use Rattle.jj_content.specs.Blake2b.{blake2b};
 ghost use Rattle.jj_program.specs.declared.fault.LineFault.{LineFault};
 ghost use Rattle.jj_program.specs.Lines.{IsFaultOf, Agrees, texts_of};
 ghost use Rattle.jj_program.specs.HashCommand.{digest_line, hashed, bytes_of_hex, hash_step, hash_output, HasSize};
+ghost use Rattle.jj_program.specs.HashViews.{HashesHex};
 
 use crate::fault::{Fault, LineFault, StepFault};
 use crate::forms::{Shape, form_line};
@@ -86,17 +87,39 @@ fn input_digest(alloc: Global, input: HashInput, fields: &[&str]) -> Result<[u8;
     }
 }
 
+// The number of hex digits that are decoded at once, so that a long string needs little memory.
+const CHUNK_DIGITS: usize = 32768;
+
 // The digest of the bytes of a hex string.
 fn raw_digest(alloc: Global, text: &str) -> Result<[u8; 64], StepFault>
     ensures { Agrees result (λ digest. digest)
         (ok_or (option_map blake2b (bytes_of_hex text.now)) LineFault.BadHex) }
 {
-    let Some(bytes) = decode_hex(alloc, text.as_bytes())? else {
-        return Err(StepFault::Line(LineFault::BadHex));
-    };
     let mut hasher = Blake2b512::new();
-    hasher.update(&bytes);
+    let mut rest = text.as_bytes();
+    while rest.len() > CHUNK_DIGITS {
+        let (part, more) = rest.split_at(CHUNK_DIGITS);
+        if !hash_hex(alloc, &mut hasher, part)? {
+            return Err(StepFault::Line(LineFault::BadHex));
+        }
+        rest = more;
+    }
+    if !hash_hex(alloc, &mut hasher, rest)? {
+        return Err(StepFault::Line(LineFault::BadHex));
+    }
     Ok(hasher.finalize())
+}
+
+// Appends the bytes of a hex string to the message, and returns whether it is one.
+fn hash_hex(alloc: Global, hasher: &mut Blake2b512, text: &[u8]) -> Result<bool, AllocError>
+    ensures bytes { IfOk result (λ valid. IsTrue valid → HashesHex hasher.old hasher.new text.now) }
+    ensures none { IfOk result (λ valid. valid ≡ false → bytes_of_hex text.now ≡ None) }
+{
+    let Some(bytes) = decode_hex(alloc, text)? else {
+        return Ok(false);
+    };
+    hasher.update(&bytes);
+    Ok(true)
 }
 
 // Appends a line with the digest in hex to the output.
