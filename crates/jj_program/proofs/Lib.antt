@@ -7,6 +7,7 @@ pub mod FieldValues
 pub mod FormRows
 pub mod DecidedTerms
 pub mod TextMerges
+pub mod TextKeys
 pub mod SortedSides
 pub mod SideDecisions
 pub mod NeighborPairs

@@ -4,6 +4,7 @@ pub mod WalkCommand
 pub mod SetCode
 pub mod MergeCommand
 pub mod MergeViews
+pub mod TextKeys
 pub mod ValueCounts
 pub mod GraphCommand
 pub mod Parts

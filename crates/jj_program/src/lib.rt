@@ -17,4 +17,5 @@ mod merge_counts;
 mod merge_outcome;
 mod numbering;
 pub mod program;
+mod text_sort;
 mod walk_command;

@@ -9,6 +9,7 @@ ghost use Rattle.jj_program.specs.Lines.{Text};
 ghost use Rattle.jj_program.specs.MergeViews.{text_eq, text_cmp, is_other, HaveCountsOf, IsTextOutcome, ResolvesSides, IsUnmatched, IsMatched};
 
 use crate::merge_counts::{counted, decided_counts};
+use crate::text_sort::sort_texts;
 use jj_merges::merge::{SameChange, trivial_merge};
 use std::alloc::{AllocError, Global};
 use std::cmp::Ordering;
@@ -38,8 +39,9 @@ pub(crate) fn outcome<'t>(
     let (adds, removes) = without_neighbors(alloc, terms)?;
     let mut adds = adds;
     let mut removes = removes;
-    adds.sort_unstable();
-    removes.sort_unstable();
+    let mut entries = Vec::with_capacity(alloc, adds.len())?;
+    sort_texts(&mut entries, &mut adds)?;
+    sort_texts(&mut entries, &mut removes)?;
     Ok(decided_sides(&adds, &removes, same_change))
 }
 
