@@ -1,26 +1,41 @@
 -- Merges of borrowed strings as private functions see them.
 -- Machinery of private functions and fields.
-use Rattle.std.specs.Prelude.{ℕ, ◌-◌, ◌<◌, ◌≤◌, List, slice_range, ◌≡◌, ◌+◌, Bool, true, false, not, Option, Some, None, count_by, drop, length, slice_index_or}
+use Rattle.std.specs.Prelude.{ℕ, ◌<◌, List, ◌≡◌, ◌+◌, Bool, true, false, not, Option, Some, None, Ok, count_by, drop, length, slice_index_or}
 use Rattle.std.specs.Cmp.Lexicographic.{slice_cmp}
 use Rattle.std.specs.Ordering.{nat_cmp}
 use Rattle.std.specs.declared.cmp.Ordering.{Ordering}
-use Rattle.jj_merges.specs.Merge.{IsOdd, adds, removes}
-use Rattle.jj_program.specs.declared.merge_command.MergeRequest.{MergeRequest as MergeRequestValue}
-use Rattle.jj_program.specs.MergeCommand.{MergeRequest}
-use Rattle.jj_program.specs.Lines.{Text, texts_of}
+use Rattle.jj_merges.specs.Merge.{adds, removes}
+use Rattle.jj_program.specs.declared.fault.Fault.{Fault}
+use Rattle.jj_program.specs.declared.fault.StepFault.{StepFault}
+use Rattle.jj_program.specs.MergeCommand.{MergeRequest, IsMergeAnswer, merge_step}
+use Rattle.jj_program.specs.Lines.{AnswersEach, IsFaultOf, IsStepFaultOf, Text, after_line}
 use Rattle.std.specs.Str.{bytes_eq}
 use Rattle.jj_merges.specs.declared.merge.SameChange.{SameChange}
 use Rattle.jj_merges.specs.Resolution.{ResolvesTo}
 
--- a request on terms of this list
-abbrev pub request_in : List Text → MergeRequestValue → MergeRequest
-request_in terms request =
-    (request.question, texts_of (slice_range terms request.start request.end))
+-- the line with these fields appends the output line of its request to those before it
+abbrev pub AnswersFields : List (List ℕ) → List ℕ → List ℕ → Type 0
+AnswersFields fields old new = (requests : List MergeRequest)
+    → AnswersEach IsMergeAnswer requests old
+    → (next : List MergeRequest) × (merge_step requests fields ≡ Ok next)
+    × AnswersEach IsMergeAnswer next new
 
--- the request has an odd number of the first `count` terms
-abbrev pub IsWithin : ℕ → MergeRequestValue → Type 0
-IsWithin count request = (request.start ≤ request.end) × (request.end ≤ count)
-    × IsOdd (request.end - request.start)
+-- a line appends the output line of its request to those before it, unless it is empty
+abbrev pub AnswersLine : ℕ → List ℕ → List ℕ → List ℕ → Type 0
+AnswersLine number line old new = (requests : List MergeRequest)
+    → AnswersEach IsMergeAnswer requests old
+    → (next : List MergeRequest) × (after_line merge_step number requests line ≡ Ok next)
+    × AnswersEach IsMergeAnswer next new
+
+-- the fault of the fields of a line, after any requests
+abbrev pub FaultsFields : StepFault → List (List ℕ) → Type 0
+FaultsFields fault fields = (requests : List MergeRequest)
+    → IsStepFaultOf fault (merge_step requests fields)
+
+-- the fault of a line, after any requests
+abbrev pub FaultsLine : Fault → ℕ → List ℕ → Type 0
+FaultsLine fault number line = (requests : List MergeRequest)
+    → IsFaultOf fault (after_line merge_step number requests line)
 
 -- equality of bytes
 abbrev pub text_eq : Text → Text → Bool

@@ -1,13 +1,13 @@
 //! The command `merge`: simplifies or resolves a merge of strings per line.
-ghost use Rattle.std.specs.Prelude.{◌≡◌, ◌++◌, map, ℕ, List, All, Ok, IfOk, IfErr, OnOk, length};
+ghost use Rattle.std.specs.Prelude.{◌≡◌, ◌++◌, ℕ, List, Ok, IfOk, IfErr, MatchResult, OnOk, length};
 ghost use Rattle.jj_merges.specs.Merge.{IsOdd};
-ghost use Rattle.jj_program.specs.Lines.{IsFaultOf, AnswersEach, texts_of};
-ghost use Rattle.jj_program.specs.MergeCommand.{IsMergeAnswer, MergeRequest, merge_step, merge_requests, GivesMerge};
-ghost use Rattle.jj_program.specs.MergeViews.{IsWithin, request_in};
+ghost use Rattle.jj_program.specs.Lines.{IsFaultOf, fields_of, texts_of};
+ghost use Rattle.jj_program.specs.MergeCommand.{IsMergeAnswer, merge_requests, GivesMerge};
+ghost use Rattle.jj_program.specs.MergeViews.{AnswersFields, AnswersLine, FaultsFields, FaultsLine};
 
 use crate::fault::{Fault, StepFault};
 use crate::forms::{Shape, form_line};
-use crate::lines::{Reading, push_line, take_lines};
+use crate::lines::{push_line, split_line};
 use crate::merge_outcome::outcome;
 use jj_merges::merge::{Merge, MergeBuilder, SameChange};
 use std::alloc::{AllocError, Global};
@@ -26,23 +26,6 @@ pub(crate) const MERGE_FORMS: &[(&str, Shape, Question)] = &[
     ("accept", Shape::Odd, Question::Resolve(SameChange::Accept)),
 ];
 
-// A requested operation on the terms from `start` to `end`.
-#[derive(Drop)]
-pub(crate) struct MergeRequest {
-    question: Question,
-    start: usize,
-    end: usize,
-}
-
-// The requests of the lines so far, and the terms of all of them in one list, so that a line needs
-// no allocation of its own. Requests run only when the whole input is valid.
-#[derive(Drop)]
-pub(crate) struct MergeReading<'t> {
-    terms: Vec<&'t str>,
-    requests: Vec<MergeRequest>,
-    ghost within: { All (IsWithin (length terms.items)) requests.items },
-}
-
 // Builds a merge of an odd number of terms.
 pub(crate) fn merge_of<'t>(alloc: Global, terms: &[&'t str]) -> Result<Merge<&'t str>, AllocError>
     requires { IsOdd (length terms.now) }
@@ -53,72 +36,63 @@ pub(crate) fn merge_of<'t>(alloc: Global, terms: &[&'t str]) -> Result<Merge<&'t
     Ok(builder.build())
 }
 
-impl<'t> Reading<'t> for MergeReading<'t> {
-    ghost State = { List MergeRequest };
-
-    ghost state = { λ reading. map (request_in reading.terms.items) reading.requests.items };
-
-    ghost step = { merge_step };
-
-    fn take(&mut self, _alloc: Global, fields: &[&'t str]) -> Result<(), StepFault> {
-        let (question, _shape, terms) = form_line(MERGE_FORMS, fields)?;
-        let start = self.terms.len();
-        self.terms.extend_from_slice(terms)?;
-        let end = self.terms.len();
-        self.requests.push(MergeRequest {
-            question,
-            start,
-            end,
-        })?;
-        Ok(())
-    }
-}
-
-// Returns the output of `merge` for an input.
+// Returns the output of `merge` for an input. Each line is performed as it is read, so that only
+// its output is stored.
 pub(crate) fn merge_output(alloc: Global, text: &str) -> Result<Vec<u8>, Fault>
     ensures done { IfOk result (λ output. GivesMerge text.now (Ok output.items)) }
     ensures fault { IfErr result (λ fault. IsFaultOf fault (merge_requests text.now)) }
 {
-    let mut reading = MergeReading {
-        terms: Vec::new(alloc),
-        requests: Vec::new(alloc),
-    };
-    take_lines(alloc, &mut reading, text)?;
-    let MergeReading { terms, requests } = reading;
-    Ok(answer_lines(alloc, &terms, &requests)?)
-}
-
-// Performs the requests on these terms and returns their lines.
-fn answer_lines(
-    alloc: Global,
-    terms: &[&str],
-    requests: &[MergeRequest],
-) -> Result<Vec<u8>, AllocError>
-    requires { All (IsWithin (length terms.now)) requests.now }
-    ensures { IfOk result (λ output. AnswersEach IsMergeAnswer
-        (map (request_in terms.now) requests.now) output.items) }
-{
+    // All lines share the list of fields, so that a line needs no allocation of its own.
+    let mut fields = Vec::new(alloc);
     let mut output = Vec::new(alloc);
-    for request in requests {
-        perform(alloc, &mut output, terms, request)?;
+    let mut rest = text;
+    let mut line_number = 1;
+    loop {
+        let end = split_line(&mut fields, rest)?;
+        answer_line(alloc, &mut output, line_number, &rest[..end], &fields)?;
+        if end == rest.len() {
+            return Ok(output);
+        }
+        rest = &rest[end + 1..];
+        line_number += 1;
     }
-    Ok(output)
 }
 
-// Performs a request on its own of these terms and appends its line to the output.
-fn perform(
+// Performs a line with these fields, unless it is empty.
+fn answer_line(
     alloc: Global,
     output: &mut Vec<u8>,
-    terms: &[&str],
-    request: &MergeRequest,
-) -> Result<(), AllocError>
-    requires { IsWithin (length terms.now) request.now }
-    ensures { OnOk result ((answer : List ℕ)
-        × IsMergeAnswer (request_in terms.now request.now) answer
-        × (output.new.items ≡ output.old.items ++ answer)) }
+    line_number: usize,
+    line: &str,
+    fields: &[&str],
+) -> Result<(), Fault>
+    requires { texts_of fields.now ≡ fields_of line.now }
+    ensures { MatchResult result
+        (λ _. AnswersLine line_number line.now output.old.items output.new.items)
+        (λ fault. FaultsLine fault line_number line.now) }
 {
-    let own = &terms[request.start..request.end];
-    push_answer(alloc, output, request.question, own)
+    if line.is_empty() {
+        return Ok(());
+    }
+    match answer_fields(alloc, output, fields) {
+        Ok(()) => Ok(()),
+        Err(StepFault::Memory) => Err(Fault::Memory),
+        Err(StepFault::Line(kind)) => Err(Fault::Line {
+            line: line_number,
+            kind,
+        }),
+    }
+}
+
+// Performs the operation that a line with these fields requests.
+fn answer_fields(alloc: Global, output: &mut Vec<u8>, fields: &[&str]) -> Result<(), StepFault>
+    ensures { MatchResult result
+        (λ _. AnswersFields (texts_of fields.now) output.old.items output.new.items)
+        (λ fault. FaultsFields fault (texts_of fields.now)) }
+{
+    let (question, _shape, terms) = form_line(MERGE_FORMS, fields)?;
+    push_answer(alloc, output, question, terms)?;
+    Ok(())
 }
 
 // Performs an operation and appends its line to the output.
