@@ -157,6 +157,10 @@ pub(crate) fn graph_output(alloc: Global, text: &str) -> Result<Vec<u8>, Fault>
         requests,
         ids: _,
     } = reading;
+    // Without requests, neither numbering nor a search for cycles is needed.
+    if requests.is_empty() {
+        return Ok(Vec::new(alloc));
+    }
     let graph = ListedGraph::new(alloc, edges, asked_ids(alloc, &requests)?)?;
     let mut visited = Visited::new(alloc);
     let cyclic = has_cycle(alloc, &graph)?;

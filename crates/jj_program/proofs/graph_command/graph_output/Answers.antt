@@ -1,8 +1,8 @@
-use Rattle.std.proofs.Common.{◌≡◌, ◌∙◌, ◌++◌, ◌<◌, ℕ, List, [], map, take, length, ap, subst, sym, refl, arith, inl, inr, None}
+use Rattle.std.proofs.Common.{◌≡◌, ◌∙◌, ◌++◌, ◌<◌, ℕ, List, [], map, take, length, ap, subst, sym, refl, arith, inl, inr, None, eqb-true}
 use Rattle.std.specs.Prelude.{All, codes, string_bytes}
 use Rattle.std.specs.List.{Contains}
 use Rattle.std.proofs.lemmas.List.Elements.{All-contains, All-weaker}
-use Rattle.std.proofs.lemmas.List.{take_all}
+use Rattle.std.proofs.lemmas.List.{nil_from_length, take_all}
 use Rattle.jj_program.specs.Lines.{after_lines, line_text, lines_of, AnswersEach}
 use Rattle.jj_program.specs.ListedGraphs.{named_by, shown_by}
 use Rattle.jj_program.specs.GraphCommand.{GraphState, IsGraphAnswer, graph_of, graph_step}
@@ -55,3 +55,14 @@ returns-clause-done c =
     subst (λ requests. AnswersEach (IsGraphAnswer (graph_of state.listed)) (map graph_request_of requests) (string_bytes c.loop-request.output)) whole
     (subst (λ graph. AnswersEach (IsGraphAnswer graph) (map graph_request_of (take c.loop-request.request-index items)) (string_bytes c.loop-request.output)) shown so_far) in
     (state, read, subst (AnswersEach (IsGraphAnswer (graph_of state.listed)) state.requests) (sym (ap (λ v. v.items) c.into_bytes.ensures.value)) answered)
+
+pub returns-then-is_empty-clause-done : goal.returns-then-is_empty-clause-done
+returns-then-is_empty-clause-done c =
+    let reading = c.take_lines.new.reading in
+    let state : GraphState = graph_state_of reading in
+    let start : graph_state_of (record { edges = c.new.result; requests = c.new-2.result; ids = c.new-3.result }) ≡ record { listed = λ id. None; requests = [] } =
+    λ i. record { listed = c.new.ensures i; requests = map graph_request_of (c.new-2.ensures.items i) } in
+    let read = ap (λ s. after_lines graph_step 1 s (lines_of c.args.text.now)) (sym start) ∙ c.in_ok-take_lines.ensures in
+    let zero : reading.requests.len ≡ 0 = eqb-true _ _ (sym c.is_empty.ensures ∙ c.if-is_empty.true) in
+    let none : reading.requests.items ≡ [] = nil_from_length reading.requests.items (omega (arith, zero)) in
+    (state, read, subst (λ requests. AnswersEach (IsGraphAnswer (graph_of state.listed)) (map graph_request_of requests) c.new-then-is_empty.result.items) (sym none) c.new-then-is_empty.ensures.items)
