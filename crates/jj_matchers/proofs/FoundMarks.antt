@@ -39,7 +39,7 @@ module _ {V : Type 0} (test : NodeAt V → Bool) where
   here node nodes path deep zero e m i = (node, Contains-node node nodes, i, e)
   here node nodes path deep (suc j) e m i = later node nodes path (deep j (omega (arith, m)) i)
 
-  passing_at : (nodes : List (NodeAt V)) (path : Path) (k : ℕ) → k < length (paths_where test nodes) → get_or (paths_where test nodes) k path ≡ path → Passing nodes path
+  pub passing_at : (nodes : List (NodeAt V)) (path : Path) (k : ℕ) → k < length (paths_where test nodes) → get_or (paths_where test nodes) k path ≡ path → Passing nodes path
   passing_at [] path k lt is = absurd (omega arith)
   passing_at (node ∷ nodes) path k lt is =
       elim (test node) as (λ b. test node ≡ b → k < length (map (λ n. n.path) (cond b (node ∷ filter test nodes) (filter test nodes)))
@@ -48,7 +48,7 @@ module _ {V : Type 0} (test : NodeAt V → Bool) where
         | false ↦ λ e m i. later node nodes path (passing_at nodes path k m i)
       ] refl lt is
 
-  into_at : (nodes : List (NodeAt V)) (node : NodeAt V) (k : ℕ) → k < length nodes → get_or nodes k node ≡ node → test node ≡ true → Contains (paths_where test nodes) node.path
+  pub into_at : (nodes : List (NodeAt V)) (node : NodeAt V) (k : ℕ) → k < length nodes → get_or nodes k node ≡ node → test node ≡ true → Contains (paths_where test nodes) node.path
   into_at [] node k lt is e = absurd (omega arith)
   into_at (n ∷ nodes) node zero lt is e =
       subst (λ b. Contains (map (λ m. m.path) (cond b (n ∷ filter test nodes) (filter test nodes))) node.path) (sym (ap test is ∙ e))
@@ -68,7 +68,7 @@ module _ {V : Type 0} (test : NodeAt V → Bool) where
         | false ↦ all_passing P nodes h.1
       ]
 
-  sorted_passing : (nodes : List (NodeAt V)) → IsStrictlySortedBy path_cmp (map (λ n. n.path) nodes) → IsStrictlySortedBy path_cmp (paths_where test nodes)
+  pub sorted_passing : (nodes : List (NodeAt V)) → IsStrictlySortedBy path_cmp (map (λ n. n.path) nodes) → IsStrictlySortedBy path_cmp (paths_where test nodes)
   unfolding IsStrictlySortedBy
   sorted_passing [] h = h
   sorted_passing (n ∷ nodes) h =

@@ -3,7 +3,6 @@ pub mod Combined
 pub mod MentionedNames
 pub mod SetMark
 pub mod MarkedTrees
-pub mod AddedMarks
 pub mod Marks
 pub mod WalkSteps
 pub mod PreorderPaths
@@ -17,3 +16,9 @@ pub mod FoundMarks
 pub mod AcceptedPaths
 pub mod EmptyVisits
 pub mod Singles
+mod PathSpans
+mod ExistingTrees
+mod EnteredMarks
+mod MarkWalks
+mod MarkWalkLists
+mod SortedMarks

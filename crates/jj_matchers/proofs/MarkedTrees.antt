@@ -1,15 +1,13 @@
 -- The tree of a list of marks: built one mark at a time, in any order, with the marked paths of the list.
-use Rattle.std.proofs.Common.{◌≡◌, ◌≢◌, ◌⊎◌, inl, inr, Option, Some, None, IsSome, ◌∙◌, Bool, true, false, List, [], ◌∷◌, ◌++◌, refl, ap, sym, subst, append_assoc, append-nil, lit<, unwrap_or}
+use Rattle.std.proofs.Common.{◌≡◌, ◌≢◌, ◌⊎◌, inl, inr, ◌↔◌, Option, Some, None, IsSome, ◌∙◌, Bool, true, false, List, [], ◌∷◌, ◌++◌, refl, ap, sym, subst, append_assoc, append-nil, lit<, unwrap_or}
 use Rattle.std.specs.Prelude.{Contains}
 use mathlib.Core.Bool.{false≢true}
 use Rattle.std.specs.Str.{bytes_eq}
 use Rattle.std.specs.Cmp.{both_ways}
 use Rattle.std.specs.Option.{option_and_then, option_map}
-use Rattle.std.specs.List.Sorted.{IsPermutation}
 use Rattle.std.proofs.lemmas.Slice.Eq.{bytes_eq-Decides}
 use Rattle.std.proofs.lemmas.Option.{none-some}
 use Rattle.std.proofs.lemmas.List.Elements.{Contains-append_left, Contains-append_right, Contains-append_cases}
-use Rattle.std.proofs.lemmas.List.Sorted.{Contains-permutation, IsPermutation-sym}
 use Rattle.jj_paths.specs.Paths.{Path}
 use Rattle.jj_paths.specs.Tree.{Tree, none, get, child, value_at, is_ordered, SetsValue}
 use Rattle.jj_paths.proofs.ListedNodes.{nothing_there, the_one}
@@ -127,21 +125,21 @@ marked_step is_new unmarked marks path old new before set = record {
         by_part (inl old_mark) = let (v, was) = value_there old q ((before.nodes q).1 (inr (rest, old_mark))) in there_by_value new q v (set.keeps q v off was)
         by_part (inr one) = has_ancestors Bool new q rest (there_by_value new (q ++ rest) true (ap (value_at new) (the_one path (q ++ rest) one) ∙ set.here))
 
--- the order of the marks makes no difference
-pub marked_permutation : (xs ys : List Path) (t : Tree Bool) → IsPermutation xs ys → IsMarkedTree xs t → IsMarkedTree ys t
-marked_permutation xs ys t moved marked = record {
+-- lists of the same marks have the same trees
+pub marked_members : (xs ys : List Path) (t : Tree Bool) → ((path : Path) → Contains xs path ↔ Contains ys path) → IsMarkedTree xs t → IsMarkedTree ys t
+marked_members xs ys t same marked = record {
   ordered = marked.ordered;
-  marked = λ path. ((λ is. Contains-permutation xs ys path moved ((marked.marked path).0 is)), (λ h. (marked.marked path).1 (Contains-permutation ys xs path (IsPermutation-sym xs ys moved) h)));
+  marked = λ path. ((λ is. (same path).0 ((marked.marked path).0 is)), (λ h. (marked.marked path).1 ((same path).1 h)));
   nodes = λ path. ((λ is. there path ((marked.nodes path).0 is)), (λ h. (marked.nodes path).1 (back path h)));
 }
   where
     there : (path : Path) → (path ≡ []) ⊎ ((rest : Path) × Contains xs (path ++ rest)) → (path ≡ []) ⊎ ((rest : Path) × Contains ys (path ++ rest))
     there path (inl root) = inl root
-    there path (inr (rest, h)) = inr (rest, Contains-permutation xs ys (path ++ rest) moved h)
+    there path (inr (rest, h)) = inr (rest, (same (path ++ rest)).0 h)
 
     back : (path : Path) → (path ≡ []) ⊎ ((rest : Path) × Contains ys (path ++ rest)) → (path ≡ []) ⊎ ((rest : Path) × Contains xs (path ++ rest))
     back path (inl root) = inl root
-    back path (inr (rest, h)) = inr (rest, Contains-permutation ys xs (path ++ rest) (IsPermutation-sym xs ys moved) h)
+    back path (inr (rest, h)) = inr (rest, (same (path ++ rest)).1 h)
 
 -- 2. The marks of the tree.
 

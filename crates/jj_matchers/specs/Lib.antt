@@ -10,4 +10,6 @@ pub mod Marks
 pub mod KeyedMarks
 pub mod Walk
 pub mod WalkInvariants
+pub mod MarkWalk
+pub mod MarkWalkInvariants
 pub mod Laws

@@ -15,11 +15,6 @@ pub record IsMarkedTree (marks : List Path) (tree : Tree Bool) : Type 0 where
   pub nodes : (path : Path) → IsSome (get tree path)
       ↔ ((path ≡ []) ⊎ ((rest : Path) × Contains marks (path ++ rest)))
 
--- marks are added: the tree of any earlier marks becomes the tree of both
-abbrev pub AddsMarks : List Path → Tree Bool → Tree Bool → Type 0
-AddsMarks marks old new = (before : List Path) → IsMarkedTree before old
-    → IsMarkedTree (before ++ marks) new
-
 -- whether the path is marked
 abbrev pub is_marked : Tree Bool → Path → Bool
 is_marked tree path = unwrap_or (value_at tree path) false

@@ -19,8 +19,8 @@ use crate::forms::{Field, LineValues, Shape, parse_line};
 use crate::lines::{Reading, push_line, take_lines};
 use crate::walk_command::WalkForm::{Combine, Mark, Push};
 use jj_globs::glob::GlobError;
-use jj_matchers::matchers::{PathGlobPattern, marked_tree};
-use jj_paths::repo_path::{InvalidNewRepoPathError, RepoPath, RepoPathBuf};
+use jj_matchers::matchers::PathGlobPattern;
+use jj_paths::repo_path::{InvalidNewRepoPathError, RepoPath};
 use std::alloc::{AllocError, Global};
 
 // The marks and the stack of sets after the lines so far.
@@ -142,7 +142,7 @@ pub(crate) fn walk_output<'t>(alloc: Global, text: &'t str) -> Result<Vec<u8>, F
     }
 }
 
-// Walks the tree of the marks by the only set on the stack, and formats the result.
+// Walks the marks by the only set on the stack, and formats the result.
 fn found_lines(
     alloc: Global,
     marks: Vec<RepoPath<'_>>,
@@ -154,8 +154,7 @@ fn found_lines(
         → (tree : Tree Bool) × IsMarkedTree (map path_of marks.entry.items) tree
         × (output.items ≡ walk_lines set tree)) }
 {
-    let tree = marked_tree(alloc, &marks)?;
-    let found = walk_set(alloc, &tree, sets)?;
+    let found = walk_set(alloc, &marks, sets)?;
     let mut output = Vec::new(alloc);
     push_paths(&mut output, "file", &found.files)?;
     push_paths(&mut output, "enter", &found.entered)?;
@@ -163,11 +162,12 @@ fn found_lines(
 }
 
 // Appends a line with this name for each path.
-fn push_paths(output: &mut Vec<u8>, name: &str, paths: &[RepoPathBuf]) -> Result<(), AllocError>
-    ensures { OnOk result (output.new.items ≡ output.old.items ++ path_lines name.now paths.now) }
+fn push_paths(output: &mut Vec<u8>, name: &str, paths: &[RepoPath<'_>]) -> Result<(), AllocError>
+    ensures { OnOk result (output.new.items
+        ≡ output.old.items ++ path_lines name.now (map path_of paths.now)) }
 {
     for path in paths {
-        push_line(output, name, &[path.as_path().as_internal_file_string()])?;
+        push_line(output, name, &[path.as_internal_file_string()])?;
     }
     Ok(())
 }

@@ -6,18 +6,18 @@ ghost use Rattle.jj_paths.specs.Names.{path_of};
 ghost use Rattle.jj_paths.specs.Paths.{Path};
 ghost use Rattle.jj_matchers.specs.Patterns.{HasSamePatterns};
 ghost use Rattle.jj_matchers.specs.Visits.{visit_spec};
-ghost use Rattle.jj_matchers.specs.Walk.{files_of, entered_by};
+ghost use Rattle.jj_matchers.specs.MarkWalk.{WalksMarks};
 ghost use Rattle.jj_program.specs.declared.file_set.SetOp.{SetOp};
 ghost use Rattle.jj_program.specs.WalkCommand.{SetTree, both, leaf_spec, spec_of};
 ghost use Rattle.jj_program.specs.SetCode.{op_of, set_of, IsAlike, IsAlikeOp, made_by, pass_over, visits_at, sets_of};
 
 use crate::file_set::{Combination, SetLine, SetOp, SetStack, SetWord, compile, evaluate};
 use jj_matchers::matchers::{
-    EverythingMatcher, FilesMatcher, GlobsMatcher, Matcher, NothingMatcher, PathGlobPattern,
-    PrefixMatcher, Visit, Walk, difference_visit, intersection_visit, union_visit, walk_matching,
+    EverythingMatcher, FilesMatcher, GlobsMatcher, MarkWalk, Matcher, NothingMatcher,
+    PathGlobPattern, PrefixMatcher, Visit, difference_visit, intersection_visit, union_visit,
+    walk_marks,
 };
 use jj_paths::repo_path::RepoPath;
-use jj_paths::repo_path_tree::RepoPathTree;
 use std::alloc::{AllocError, Global};
 
 // A set of files described by one line, as its matcher.
@@ -240,20 +240,18 @@ impl SetMatcher {
     }
 }
 
-// Walks a tree of marks by the only set of a stack.
-pub(crate) fn walk_set(
+// Walks marks by the only set of a stack.
+pub(crate) fn walk_set<'t>(
     alloc: Global,
-    tree: &RepoPathTree<bool>,
+    marks: &[RepoPath<'t>],
     sets: SetStack<'_>,
-) -> Result<Walk, AllocError>
+) -> Result<MarkWalk<'t>, AllocError>
     requires { length (sets_of sets.ops.items) ≡ 1 }
-    ensures files { IfOk result (λ walk. (set : SetTree FileSet)
+    ensures { IfOk result (λ walk. (set : SetTree FileSet)
         → sets_of sets.entry.ops.items ≡ set ∷ []
-        → walk.files.items ≡ files_of (spec_of set).accepts tree.now) }
-    ensures entered { IfOk result (λ walk. (set : SetTree FileSet)
-        → sets_of sets.entry.ops.items ≡ set ∷ []
-        → walk.entered.items ≡ entered_by (spec_of set).visits tree.now) }
+        → WalksMarks (spec_of set).accepts (spec_of set).visits (map path_of marks.now)
+        (map path_of walk.files.items) (map path_of walk.entered.items)) }
 {
     let matcher = SetMatcher::new(alloc, sets)?;
-    walk_matching(alloc, tree, &matcher)
+    walk_marks(alloc, marks, &matcher)
 }
