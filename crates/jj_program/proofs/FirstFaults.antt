@@ -5,7 +5,7 @@ use Rattle.jj_program.specs.declared.fault.Fault.{Fault}
 use Rattle.jj_program.specs.declared.fault.Fault.TheVariants.{Memory, Line}
 use Rattle.jj_program.specs.declared.fault.LineFault.{LineFault}
 use Rattle.jj_program.specs.declared.program.Command.TheVariants.{Walk, Merge, Graph, Hash}
-use Rattle.jj_program.specs.Laws.{BeginAlike, GivesFirstFault}
+use Rattle.jj_program.specs.Laws.{BeginAlike, FaultsAreOfFirstLines}
 use Rattle.jj_program.specs.GraphCommand.{graph_step, GraphState}
 use Rattle.jj_program.specs.HashCommand.{hash_step}
 use Rattle.jj_program.specs.Lines.{lines_of, fields_of, after_line, after_lines, result_and_then}
@@ -143,7 +143,7 @@ begun = record { marks = []; stack = [] }
 abbrev unlisted : GraphState
 unlisted = record { listed = λ id. None; requests = [] }
 
-pub gives_first_fault : GivesFirstFault
+pub gives_first_fault : FaultsAreOfFirstLines
 gives_first_fault Walk text number kind e =
     let lines = walk_lines_fail _ number kind e in
     record {

@@ -15,7 +15,7 @@ use Rattle.jj_program.specs.declared.graph_command.TheConstants.{GRAPH_FORMS}
 use Rattle.jj_program.specs.declared.hash_command.HashInput.{HashInput}
 use Rattle.jj_program.specs.declared.hash_command.HashInput.TheVariants.{Raw, Text, List as List', Merge as Merge'}
 use Rattle.jj_program.specs.declared.hash_command.TheConstants.{HASH_FORMS}
-use Rattle.jj_program.specs.declared.merge_command.Question.{Question}
+use Rattle.jj_program.specs.declared.merge_command.MergeForm.{MergeForm}
 use Rattle.jj_program.specs.declared.merge_command.TheConstants.{MERGE_FORMS}
 use Rattle.jj_program.specs.declared.program.Command.{Command}
 use Rattle.jj_program.specs.declared.program.Command.TheVariants.{Walk, Merge, Graph, Hash}
@@ -79,11 +79,11 @@ walk_first earlier fields (Some (shape, Mark)) = by_count path_kind glob_kind (w
 walk_first earlier fields (Some (shape, Push word)) = by_count path_kind glob_kind (walk_refuses earlier) shape (Push word) fields (admits shape fields)
 walk_first earlier fields (Some (shape, Combine combination)) = by_count path_kind glob_kind (walk_refuses earlier) shape (Combine combination) fields (admits shape fields)
 
-merge_first : (fields : List (List ℕ)) (form : Option (Shape × Question)) → kind_by {L = Question × Shape × List (List ℕ)} (λ line. None) (admitted form fields) ≡ find (fails_by (λ form kind. false) fields form) kinds
+merge_first : (fields : List (List ℕ)) (form : Option (Shape × MergeForm)) → kind_by {L = MergeForm × Shape × List (List ℕ)} (λ line. None) (admitted form fields) ≡ find (fails_by (λ form kind. false) fields form) kinds
 merge_first fields None = refl
-merge_first fields (Some (shape, question)) = by (admits shape fields)
+merge_first fields (Some (shape, form)) = by (admits shape fields)
   where
-    by : (c : Bool) → kind_by {L = Question × Shape × List (List ℕ)} (λ line. None) (cond {A = Result (Question × Shape × List (List ℕ)) LineFault} c (Ok (question, shape, fields)) (Err BadFieldCount)) ≡ cond {A = Option LineFault} (not c) (Some BadFieldCount) None
+    by : (c : Bool) → kind_by {L = MergeForm × Shape × List (List ℕ)} (λ line. None) (cond {A = Result (MergeForm × Shape × List (List ℕ)) LineFault} c (Ok (form, shape, fields)) (Err BadFieldCount)) ≡ cond {A = Option LineFault} (not c) (Some BadFieldCount) None
     by true = refl
     by false = refl
 

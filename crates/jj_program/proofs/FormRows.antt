@@ -6,7 +6,7 @@ use Rattle.jj_program.specs.declared.fault.LineFault.TheVariants.{BadFieldCount}
 use Rattle.jj_program.specs.declared.hash_command.HashInput.{HashInput}
 use Rattle.jj_program.specs.declared.hash_command.TheConstants.{HASH_FORMS}
 use Rattle.jj_program.specs.declared.forms.Shape.{Shape}
-use Rattle.jj_program.specs.declared.merge_command.Question.{Question}
+use Rattle.jj_program.specs.declared.merge_command.MergeForm.{MergeForm}
 use Rattle.jj_program.specs.declared.merge_command.TheConstants.{MERGE_FORMS}
 use Rattle.jj_program.specs.Forms.{Form, admits, form_line, form_named, table}
 use Rattle.jj_program.specs.HashCommand.{HasSize}
@@ -41,8 +41,8 @@ module _ {A : Type 0} (P : A → List (List ℕ) → Type 0) where
       by [] rows h = cc
       by (form ∷ forms) rows h = on form forms rows.0 (by forms rows.1) (bytes_eq form.0 word) h
 
-pub odd_terms : (line : List (List ℕ)) (question : Question) (shape : Shape) (terms : List (List ℕ)) → form_line (table MERGE_FORMS) line ≡ Ok (question, shape, terms) → length terms % 2 ≡ 1
-odd_terms = of_line (λ question terms. length terms % 2 ≡ 1) (table MERGE_FORMS)
+pub odd_terms : (line : List (List ℕ)) (form : MergeForm) (shape : Shape) (terms : List (List ℕ)) → form_line (table MERGE_FORMS) line ≡ Ok (form, shape, terms) → length terms % 2 ≡ 1
+odd_terms = of_line (λ form terms. length terms % 2 ≡ 1) (table MERGE_FORMS)
     (λ terms odd. eqb-true _ _ odd, (λ terms odd. eqb-true _ _ odd, (λ terms odd. eqb-true _ _ odd, tt)))
 
 pub sized_input : (line : List (List ℕ)) (input : HashInput) (shape : Shape) (fields : List (List ℕ)) → form_line (table HASH_FORMS) line ≡ Ok (input, shape, fields) → HasSize input fields

@@ -21,7 +21,7 @@ use Rattle.jj_globs.specs.GlobMeaning.{GlobSpec}
 use Rattle.jj_paths.specs.Paths.{Path}
 use Rattle.jj_program.specs.GraphCommand.{GraphRequest, Order as Order', Heads as Heads', Common as Common', GraphState, graph_line, graph_step, graph_act, graph_state}
 use Rattle.jj_program.specs.HashCommand.{hash_line, digest_line, hash_step, hash_output}
-use Rattle.jj_program.specs.LineFaults.{kind_of_fields, first_fault, pushes, combines, sets_left, lists_node, LeavesOneSet, IsToldBy, AnswersFirstFault}
+use Rattle.jj_program.specs.LineFaults.{kind_of_fields, first_fault, pushes, combines, sets_left, lists_node, LeavesOneSet, IsDeterminedBy, FaultsAreOfFirstKinds}
 use Rattle.jj_program.specs.Lines.{lines_of, fields_of, after_lines, result_and_then}
 use Rattle.jj_program.specs.MergeCommand.{merge_step, merge_requests}
 use Rattle.jj_program.specs.declared.file_set.matcher.FileSet.{FileSet}
@@ -148,15 +148,15 @@ walk_steps earlier state line high = by (walk_line (fields_of line)) refl
 abbrev begun : WalkState
 begun = record { marks = []; stack = [] }
 
-walk_told : (text : List ℕ) → IsToldBy Walk (lines_of text) (walk_request text)
+walk_told : (text : List ℕ) → IsDeterminedBy Walk (lines_of text) (walk_request text)
 walk_told text = by (after_lines walk_step 1 begun (lines_of text)) (told Walk walk_step IsHigh (λ earlier state high. higher earlier state state [] (Err UnknownCommand) refl high refl) walk_steps 1 [] (lines_of text) begun refl)
   where
-    left : (marks : List Path) (stack : List (SetTree FileSet)) → first_fault Walk [] 1 (lines_of text) ≡ None → length stack ≡ sets_left (lines_of text) → IsToldBy Walk (lines_of text) (only_set marks stack)
+    left : (marks : List Path) (stack : List (SetTree FileSet)) → first_fault Walk [] 1 (lines_of text) ≡ None → length stack ≡ sets_left (lines_of text) → IsDeterminedBy Walk (lines_of text) (only_set marks stack)
     left marks [] none high = (none, high, λ e. absurd (omega (arith, e)))
     left marks (set ∷ []) none high = (none, sym high)
     left marks (set ∷ other ∷ stack) none high = (none, high, λ e. absurd (omega (arith, e)))
 
-    by : (r : Result WalkState Fault) → Told (IsHigh (lines_of text)) r (first_fault Walk [] 1 (lines_of text)) → IsToldBy Walk (lines_of text) (result_and_then r (λ state. only_set state.marks state.stack))
+    by : (r : Result WalkState Fault) → Told (IsHigh (lines_of text)) r (first_fault Walk [] 1 (lines_of text)) → IsDeterminedBy Walk (lines_of text) (result_and_then r (λ state. only_set state.marks state.stack))
     by (Ok state) h = let high = h.1 in left state.marks state.stack h.0 (omega (arith, high))
     by (Err ReadInput) h = absurd h
     by (Err NotUtf8) h = absurd h
@@ -193,8 +193,8 @@ graph_steps earlier state line listing = by (graph_line (fields_of line)) refl
     Tells : Result (GraphForm × List ℕ × List ℕ) LineFault → Type 0
     Tells r = HasKind (result_and_then r (λ l. graph_act state l.0 l.1 l.2)) (kind_by (graph_refuses earlier) r) × After (result_and_then r (λ l. graph_act state l.0 l.1 l.2)) (IsListing (earlier ++ line ∷ []))
 
-    asked : GraphRequest → GraphState
-    asked request = record { listed = state.listed; requests = state.requests ++ request ∷ [] }
+    requested : GraphRequest → GraphState
+    requested request = record { listed = state.listed; requests = state.requests ++ request ∷ [] }
 
     node : (id : ℕ) (neighbors none : List ℕ) → graph_line (fields_of line) ≡ Ok (Node, id ∷ neighbors, none) → (b : Bool) → is_some (state.listed id) ≡ b → Tells (Ok (Node, id ∷ neighbors, none))
     node id neighbors none is true e =
@@ -212,9 +212,9 @@ graph_steps earlier state line listing = by (graph_line (fields_of line)) refl
     by (Err kind) is = (refl, tt)
     by (Ok (Node, [], none)) is = (refl, longer earlier state state line _ is listing (λ id. or_false _))
     by (Ok (Node, id ∷ neighbors, none)) is = node id neighbors none is (is_some (state.listed id)) refl
-    by (Ok (Order, first, second)) is = (refl, longer earlier state (asked (Order' first)) line _ is listing (λ id. or_false _))
-    by (Ok (Heads, first, second)) is = (refl, longer earlier state (asked (Heads' first)) line _ is listing (λ id. or_false _))
-    by (Ok (Common, first, second)) is = (refl, longer earlier state (asked (Common' first second)) line _ is listing (λ id. or_false _))
+    by (Ok (Order, first, second)) is = (refl, longer earlier state (requested (Order' first)) line _ is listing (λ id. or_false _))
+    by (Ok (Heads, first, second)) is = (refl, longer earlier state (requested (Heads' first)) line _ is listing (λ id. or_false _))
+    by (Ok (Common, first, second)) is = (refl, longer earlier state (requested (Common' first second)) line _ is listing (λ id. or_false _))
 
 graph_skips : (earlier : List (List ℕ)) (state : GraphState) → IsListing earlier state → IsListing (earlier ++ [] ∷ []) state
 graph_skips earlier state listing = longer earlier state state [] (Err UnknownCommand) refl listing (λ id. or_false _)
@@ -222,7 +222,7 @@ graph_skips earlier state listing = longer earlier state state [] (Err UnknownCo
 -- 5. Whole inputs.
 
 -- a command without a condition on the last state
-plain : {S : Type 0} (command : Command) (P : S → Type 0) (lines : List (List ℕ)) (leaves : LeavesOneSet command lines) (r : Result S Fault) → Told P r (first_fault command [] 1 lines) → IsToldBy command lines r
+plain : {S : Type 0} (command : Command) (P : S → Type 0) (lines : List (List ℕ)) (leaves : LeavesOneSet command lines) (r : Result S Fault) → Told P r (first_fault command [] 1 lines) → IsDeterminedBy command lines r
 plain command P lines leaves (Ok state) h = (h.0, leaves)
 plain command P lines leaves (Err ReadInput) h = absurd h
 plain command P lines leaves (Err NotUtf8) h = absurd h
@@ -231,15 +231,15 @@ plain command P lines leaves (Err WriteOutput) h = absurd h
 plain command P lines leaves (Err (Matchers count)) h = absurd h
 plain command P lines leaves (Err (Line line kind)) h = h
 
-merge_told : (text : List ℕ) → IsToldBy Merge (lines_of text) (merge_requests text)
+merge_told : (text : List ℕ) → IsDeterminedBy Merge (lines_of text) (merge_requests text)
 merge_told text = plain Merge (λ state. Unit {0}) (lines_of text) tt (merge_requests text)
     (told Merge merge_step IsAny (λ earlier state any. tt) (λ earlier state line any. (never_fails _ _, after_any (merge_step state (fields_of line)))) 1 [] (lines_of text) [] tt)
 
-graph_told : (text : List ℕ) → IsToldBy Graph (lines_of text) (graph_state text)
+graph_told : (text : List ℕ) → IsDeterminedBy Graph (lines_of text) (graph_state text)
 graph_told text = plain Graph (IsListing (lines_of text)) (lines_of text) tt (graph_state text)
     (told Graph graph_step IsListing graph_skips graph_steps 1 [] (lines_of text) (record { listed = λ id. None; requests = [] }) (λ id. refl))
 
-hash_told : (text : List ℕ) → IsToldBy Hash (lines_of text) (hash_output text)
+hash_told : (text : List ℕ) → IsDeterminedBy Hash (lines_of text) (hash_output text)
 hash_told text = plain Hash (λ state. Unit {0}) (lines_of text) tt (hash_output text)
     (told Hash hash_step IsAny (λ earlier state any. tt) (λ earlier state line any. (digests state (hash_line (fields_of line)), after_any (hash_step state (fields_of line)))) 1 [] (lines_of text) [] tt)
   where
@@ -247,11 +247,11 @@ hash_told text = plain Hash (λ state. Unit {0}) (lines_of text) tt (hash_output
     digests output (Ok bytes) = refl
     digests output (Err kind) = refl
 
-pub answers_first_fault : AnswersFirstFault
-answers_first_fault Walk text (Ok output) h = subst (IsToldBy Walk (lines_of text)) h.1 (walk_told text)
-answers_first_fault Walk text (Err fault) h = subst (IsToldBy Walk (lines_of text)) h (walk_told text)
-answers_first_fault Merge text (Ok output) h = subst (IsToldBy Merge (lines_of text)) h.1 (merge_told text)
-answers_first_fault Merge text (Err fault) h = subst (IsToldBy Merge (lines_of text)) h (merge_told text)
-answers_first_fault Graph text (Ok output) h = subst (IsToldBy Graph (lines_of text)) h.1 (graph_told text)
-answers_first_fault Graph text (Err fault) h = subst (IsToldBy Graph (lines_of text)) h (graph_told text)
-answers_first_fault Hash text answer h = subst (IsToldBy Hash (lines_of text)) h (hash_told text)
+pub answers_first_fault : FaultsAreOfFirstKinds
+answers_first_fault Walk text (Ok output) h = subst (IsDeterminedBy Walk (lines_of text)) h.1 (walk_told text)
+answers_first_fault Walk text (Err fault) h = subst (IsDeterminedBy Walk (lines_of text)) h (walk_told text)
+answers_first_fault Merge text (Ok output) h = subst (IsDeterminedBy Merge (lines_of text)) h.1 (merge_told text)
+answers_first_fault Merge text (Err fault) h = subst (IsDeterminedBy Merge (lines_of text)) h (merge_told text)
+answers_first_fault Graph text (Ok output) h = subst (IsDeterminedBy Graph (lines_of text)) h.1 (graph_told text)
+answers_first_fault Graph text (Err fault) h = subst (IsDeterminedBy Graph (lines_of text)) h (graph_told text)
+answers_first_fault Hash text answer h = subst (IsDeterminedBy Hash (lines_of text)) h (hash_told text)

@@ -139,12 +139,12 @@ module _ (path : Path) where
       → ((b : Bool) → pass_over path (code_of second) (0, b) ≡ (0, (spec_of second).accepts path))
       → after path (Combine k) (pass_over path (code_of second) (after path (ShortCircuit k) (0, u)))
       ≡ (0, (spec_of (both k first second)).accepts path)
-  second_set Union true first second is asked = rw (sym is) (ap (after path (Combine Union)) (kept second 0 true))
-  second_set Union false first second is asked = rw (sym is) (ap (after path (Combine Union)) (asked false))
-  second_set Difference true first second is asked = rw (sym is) (ap (after path (Combine Difference)) (asked true))
-  second_set Difference false first second is asked = rw (sym is) (ap (after path (Combine Difference)) (kept second 0 false))
-  second_set Intersection true first second is asked = rw (sym is) (ap (after path (Combine Intersection)) (asked true))
-  second_set Intersection false first second is asked = rw (sym is) (ap (after path (Combine Intersection)) (kept second 0 false))
+  second_set Union true first second is requested = rw (sym is) (ap (after path (Combine Union)) (kept second 0 true))
+  second_set Union false first second is requested = rw (sym is) (ap (after path (Combine Union)) (requested false))
+  second_set Difference true first second is requested = rw (sym is) (ap (after path (Combine Difference)) (requested true))
+  second_set Difference false first second is requested = rw (sym is) (ap (after path (Combine Difference)) (kept second 0 false))
+  second_set Intersection true first second is requested = rw (sym is) (ap (after path (Combine Intersection)) (requested true))
+  second_set Intersection false first second is requested = rw (sym is) (ap (after path (Combine Intersection)) (kept second 0 false))
 
   pub told : (set : SetTree FileSet) (b : Bool) → pass_over path (code_of set) (0, b) ≡ (0, (spec_of set).accepts path)
   told (one x) b = refl

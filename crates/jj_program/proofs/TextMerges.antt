@@ -13,11 +13,11 @@ use Rattle.jj_merges.specs.Merge.{adds, removes, interleave, signed_count}
 use Rattle.jj_merges.specs.Resolution.{ResolvesTo}
 use Rattle.jj_merges.specs.Simplify.{equal_at, cancel_from, split_indices, simplified_indices, at_indices}
 use Rattle.jj_merges.proofs.Cancellation.{equal_options, simplified_sides}
-use Rattle.jj_program.specs.declared.merge_command.Question.{Question}
-use Rattle.jj_program.specs.declared.merge_command.Question.TheVariants.{Simplify, Resolve}
+use Rattle.jj_program.specs.declared.merge_command.MergeForm.{MergeForm}
+use Rattle.jj_program.specs.declared.merge_command.MergeForm.TheVariants.{Simplify, Resolve}
 use Rattle.jj_program.specs.Lines.{line_text, Text, texts_of}
 use Rattle.jj_program.proofs.DecidedTerms.{decided_stands}
-use Rattle.jj_program.specs.MergeCommand.{outcome_line, IsMergeAnswer}
+use Rattle.jj_program.specs.MergeCommand.{outcome_line, IsMergeLine}
 use Rattle.jj_program.specs.MergeViews.{text_eq, IsTextOutcome}
 
 -- a borrowed string with these bytes
@@ -115,18 +115,18 @@ member_bytes same_change m v decided =
     decided_stands same_change (texts_of m) v.now (decided_bytes same_change m v decided)
 
 -- the simplified merge is the result of `simplify`
-pub answers_simplify : (question : Question) (m left : List Text) → question ≡ Simplify → AllZip (λ x y. y ≡ x) (at_indices m (simplified_indices text_eq m)) left
-    → IsMergeAnswer (question, texts_of m) (line_text (codes "terms") (texts_of left))
-answers_simplify question m left asked kept =
-    subst (λ q. IsMergeAnswer (q, texts_of m) (line_text (codes "terms") (texts_of left))) (sym asked) (ap (line_text (codes "terms")) (left_bytes m left kept))
+pub line_of_simplify : (form : MergeForm) (m left : List Text) → form ≡ Simplify → AllZip (λ x y. y ≡ x) (at_indices m (simplified_indices text_eq m)) left
+    → IsMergeLine (form, texts_of m) (line_text (codes "terms") (texts_of left))
+line_of_simplify form m left requested kept =
+    subst (λ q. IsMergeLine (q, texts_of m) (line_text (codes "terms") (texts_of left))) (sym requested) (ap (line_text (codes "terms")) (left_bytes m left kept))
 
 -- the resolved string, if any, is the result of `keep` and `accept`
-pub answers_outcome : (question : Question) (same_change : SameChange) (m : List Text)
-    (o : Option Text) → question ≡ Resolve same_change → IsTextOutcome same_change m o
-    → IsMergeAnswer (question, texts_of m) (outcome_line (option_map (λ text. text.now) o))
-answers_outcome question same_change m (Some v) asked decided =
-    subst (λ q. IsMergeAnswer (q, texts_of m) (outcome_line (Some v.now))) (sym asked)
+pub line_of_outcome : (form : MergeForm) (same_change : SameChange) (m : List Text)
+    (o : Option Text) → form ≡ Resolve same_change → IsTextOutcome same_change m o
+    → IsMergeLine (form, texts_of m) (outcome_line (option_map (λ text. text.now) o))
+line_of_outcome form same_change m (Some v) requested decided =
+    subst (λ q. IsMergeLine (q, texts_of m) (outcome_line (Some v.now))) (sym requested)
     (Some v.now, (member_bytes same_change m v decided, decided_bytes same_change m v decided), refl)
-answers_outcome question same_change m None asked none =
-    subst (λ q. IsMergeAnswer (q, texts_of m) (outcome_line None)) (sym asked)
+line_of_outcome form same_change m None requested none =
+    subst (λ q. IsMergeLine (q, texts_of m) (outcome_line None)) (sym requested)
     (None, none_decided same_change m none, refl)

@@ -7,7 +7,7 @@ use Rattle.jj_matchers.specs.Patterns.{IsAccepted}
 use Rattle.jj_program.specs.declared.file_set.Combination.TheVariants.{Union, Difference, Intersection}
 use Rattle.jj_program.specs.declared.file_set.matcher.FileSet.{FileSet}
 use Rattle.jj_program.specs.declared.file_set.matcher.FileSet.TheVariants.{Everything, Nothing, Files, Prefix, Globs}
-use Rattle.jj_program.specs.WalkCommand.{SetTree, one, both, GivesWalk, path_lines, WalkRequest, walk_request}
+use Rattle.jj_program.specs.WalkCommand.{SetTree, one, both, IsWalkResult, path_lines, WalkRequest, walk_request}
 
 -- the path is in a leaf: all paths, none, those of a list, those at or below one of a list, or
 -- those whose suffix below a pattern's directory its glob matches
@@ -33,6 +33,6 @@ pub record AreFound (request : WalkRequest) (found : List Path) : Type 0 where
 
 -- the output of a walk: a line per file, then a line per directory entered
 abbrev pub FindsItsFiles : Type 0
-FindsItsFiles = (text output : List ℕ) → GivesWalk text (Ok output) → (request : WalkRequest)
+FindsItsFiles = (text output : List ℕ) → IsWalkResult text (Ok output) → (request : WalkRequest)
     × (found entered : List Path) × (walk_request text ≡ Ok request) × AreFound request found
     × (output ≡ path_lines (codes "file") found ++ path_lines (codes "enter") entered)

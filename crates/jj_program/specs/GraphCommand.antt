@@ -14,7 +14,7 @@ use Rattle.jj_program.specs.declared.graph_command.GraphForm.{GraphForm}
 use Rattle.jj_program.specs.declared.graph_command.GraphForm.TheVariants.{Node, Order as Order', Heads as Heads', Common as Common'}
 use Rattle.jj_program.specs.declared.graph_command.TheConstants.{GRAPH_FORMS}
 use Rattle.jj_program.specs.Forms.{Kind, line_of, table}
-use Rattle.jj_program.specs.Lines.{AnswersEach, line_text, lines_of, after_lines, result_and_then}
+use Rattle.jj_program.specs.Lines.{AreLinesOf, line_text, lines_of, after_lines, result_and_then}
 use Rattle.std.specs.Str.{bytes_eq}
 
 -- a request
@@ -85,22 +85,22 @@ abbrev pub numbers_line : List ℕ → List ℕ → List ℕ
 numbers_line name ids = line_text name (map decimal ids)
 
 -- the line of a request on an acyclic graph
-abbrev pub AnswersRequest : Graph → GraphRequest → List ℕ → Type 0
-AnswersRequest graph (Order ids) answer = (order : List ℕ)
-    × IsGreatestTopologicalOrder graph ids order × (answer ≡ numbers_line (codes "order") order)
-AnswersRequest graph (Heads ids) answer = (heads : List ℕ) × AreMaximalElements graph ids heads
-    × IsStrictlyIncreasing heads × (answer ≡ numbers_line (codes "heads") heads)
-AnswersRequest graph (Common set1 set2) answer = (common : List ℕ)
+abbrev pub IsLineOfRequest : Graph → GraphRequest → List ℕ → Type 0
+IsLineOfRequest graph (Order ids) line = (order : List ℕ)
+    × IsGreatestTopologicalOrder graph ids order × (line ≡ numbers_line (codes "order") order)
+IsLineOfRequest graph (Heads ids) line = (heads : List ℕ) × AreMaximalElements graph ids heads
+    × IsStrictlyIncreasing heads × (line ≡ numbers_line (codes "heads") heads)
+IsLineOfRequest graph (Common set1 set2) line = (common : List ℕ)
     × AreClosestCommon graph set1 set2 common × IsStrictlyIncreasing common
-    × (answer ≡ numbers_line (codes "common") common)
+    × (line ≡ numbers_line (codes "common") common)
 
 -- the line of a request: `cycle` if the graph has one anywhere
-abbrev pub IsGraphAnswer : Graph → GraphRequest → List ℕ → Type 0
-IsGraphAnswer graph request answer = (HasCycle graph × (answer ≡ line_text (codes "cycle") []))
-    ⊎ ((HasCycle graph → ⊥) × AnswersRequest graph request answer)
+abbrev pub IsGraphLine : Graph → GraphRequest → List ℕ → Type 0
+IsGraphLine graph request line = (HasCycle graph × (line ≡ line_text (codes "cycle") []))
+    ⊎ ((HasCycle graph → ⊥) × IsLineOfRequest graph request line)
 
 -- the output has one line per request, on the graph of the whole input; or the input has this fault
-abbrev pub GivesGraph : List ℕ → Result (List ℕ) Fault → Type 0
-GivesGraph text (Ok output) = (state : GraphState) × (graph_state text ≡ Ok state)
-    × AnswersEach (IsGraphAnswer (graph_of state.listed)) state.requests output
-GivesGraph text (Err fault) = graph_state text ≡ Err fault
+abbrev pub IsGraphResult : List ℕ → Result (List ℕ) Fault → Type 0
+IsGraphResult text (Ok output) = (state : GraphState) × (graph_state text ≡ Ok state)
+    × AreLinesOf (IsGraphLine (graph_of state.listed)) state.requests output
+IsGraphResult text (Err fault) = graph_state text ≡ Err fault

@@ -1,17 +1,17 @@
 -- Determinism of the commands, and their line faults as those of the first faulty line.
--- Cited by contracts of public items: GivesFirstFault, GivesOneAnswer.
+-- Cited by contracts of public items: FaultsAreOfFirstLines, ResultsAreUnique.
 use Rattle.std.specs.Prelude.{◌≡◌, ℕ, List, Result, ◌-◌, ◌<◌, ◌≤◌, length, take, Err}
 use Rattle.jj_program.specs.declared.fault.Fault.{Fault}
 use Rattle.jj_program.specs.declared.program.Command.{Command}
-use Rattle.jj_program.specs.Program.{Gives, GivesText}
+use Rattle.jj_program.specs.Program.{HasResult, HasResultOnText}
 use Rattle.jj_program.specs.declared.fault.Fault.TheVariants.{Line}
 use Rattle.jj_program.specs.declared.fault.LineFault.{LineFault}
 use Rattle.jj_program.specs.Lines.{lines_of}
 
 -- any two results of a command on an input are equal
-abbrev pub GivesOneAnswer : Type 0
-GivesOneAnswer = (command : Command) (input : List ℕ) (first second : Result (List ℕ) Fault)
-    → Gives command input first → Gives command input second → first ≡ second
+abbrev pub ResultsAreUnique : Type 0
+ResultsAreUnique = (command : Command) (input : List ℕ) (first second : Result (List ℕ) Fault)
+    → HasResult command input first → HasResult command input second → first ≡ second
 
 -- two inputs have the same first `count` lines
 abbrev pub BeginAlike : ℕ → List ℕ → List ℕ → Type 0
@@ -23,13 +23,13 @@ pub record IsFirstFault (command : Command) (text : List ℕ) (line_number : ℕ
     : Type 0 where
   pub there : (1 ≤ line_number) × (line_number ≤ length (lines_of text))
   pub decided : (other : List ℕ) → BeginAlike line_number text other
-      → GivesText command other (Err (Line line_number kind))
+      → HasResultOnText command other (Err (Line line_number kind))
   pub first : (other : List ℕ) (earlier : ℕ) (fault : LineFault)
       → BeginAlike (line_number - 1) text other → earlier < line_number
-      → GivesText command other (Err (Line earlier fault)) → ⊥
+      → HasResultOnText command other (Err (Line earlier fault)) → ⊥
 
 -- a line fault of a command is that of the first faulty line
-abbrev pub GivesFirstFault : Type 0
-GivesFirstFault = (command : Command) (text : List ℕ) (line_number : ℕ) (kind : LineFault)
-    → GivesText command text (Err (Line line_number kind))
+abbrev pub FaultsAreOfFirstLines : Type 0
+FaultsAreOfFirstLines = (command : Command) (text : List ℕ) (line_number : ℕ) (kind : LineFault)
+    → HasResultOnText command text (Err (Line line_number kind))
     → IsFirstFault command text line_number kind

@@ -1,6 +1,6 @@
 -- Faults of lines, kind by kind, defined over the fields of the input only, and the first fault of
 -- an input.
--- Cited by contracts of public items: AnswersFirstFault.
+-- Cited by contracts of public items: FaultsAreOfFirstKinds.
 use Rattle.std.specs.Prelude.{◌≡◌, ◌≢◌, ◌==◌, ◌&&◌, ◌++◌, ◌+◌, ◌-◌, ℕ, Bool, true, false, not, nat_lt, List, [], ◌∷◌, map, Option, Some, None, is_some, Result, Ok, Err}
 use Rattle.std.specs.List.{concat, count_by, find, list_all, list_any}
 use Rattle.std.specs.Option.{option_map, option_or}
@@ -28,7 +28,7 @@ use Rattle.jj_program.specs.Forms.{admits, first_fields, form_named, second_fiel
 use Rattle.jj_program.specs.GraphCommand.{graph_line, is_number}
 use Rattle.jj_program.specs.HashCommand.{bytes_of_hex}
 use Rattle.jj_program.specs.Lines.{lines_of, fields_of}
-use Rattle.jj_program.specs.Program.{GivesText}
+use Rattle.jj_program.specs.Program.{HasResultOnText}
 use Rattle.jj_program.specs.WalkCommand.{is_glob_text, walk_line}
 
 -- a line pushes a set; a line combines the top two
@@ -126,15 +126,15 @@ LeavesOneSet command lines = Unit {0}
 
 -- a result agrees with the lines of its input: an output if no line has a fault (and a walk leaves
 -- one set); the number of sets left if it is not one; or the first fault of the first faulty line
-abbrev pub IsToldBy : {A : Type 0} → Command → List (List ℕ) → Result A Fault → Type 0
-IsToldBy command lines (Ok output) =
+abbrev pub IsDeterminedBy : {A : Type 0} → Command → List (List ℕ) → Result A Fault → Type 0
+IsDeterminedBy command lines (Ok output) =
     (first_fault command [] 1 lines ≡ None) × LeavesOneSet command lines
-IsToldBy command lines (Err (Line number kind)) =
+IsDeterminedBy command lines (Err (Line number kind)) =
     first_fault command [] 1 lines ≡ Some (Line number kind)
-IsToldBy command lines (Err (Matchers count)) =
+IsDeterminedBy command lines (Err (Matchers count)) =
     (first_fault command [] 1 lines ≡ None) × (count ≡ sets_left lines) × (count ≢ 1)
-IsToldBy command lines (Err fault) = ⊥
+IsDeterminedBy command lines (Err fault) = ⊥
 
-abbrev pub AnswersFirstFault : Type 0
-AnswersFirstFault = (command : Command) (text : List ℕ) (answer : Result (List ℕ) Fault)
-    → GivesText command text answer → IsToldBy command (lines_of text) answer
+abbrev pub FaultsAreOfFirstKinds : Type 0
+FaultsAreOfFirstKinds = (command : Command) (text : List ℕ) (result : Result (List ℕ) Fault)
+    → HasResultOnText command text result → IsDeterminedBy command (lines_of text) result

@@ -9,7 +9,7 @@ use Rattle.jj_program.specs.declared.graph_command.GraphForm.TheVariants.{Node, 
 use Rattle.jj_program.specs.declared.graph_command.TheConstants.{GRAPH_FORMS}
 use Rattle.jj_program.specs.declared.hash_command.HashInput.TheVariants.{Raw, Text, List, Merge}
 use Rattle.jj_program.specs.declared.hash_command.TheConstants.{HASH_FORMS}
-use Rattle.jj_program.specs.declared.merge_command.Question.TheVariants.{Simplify, Resolve}
+use Rattle.jj_program.specs.declared.merge_command.MergeForm.TheVariants.{Simplify, Resolve}
 use Rattle.jj_program.specs.declared.merge_command.TheConstants.{MERGE_FORMS}
 use Rattle.jj_program.specs.declared.walk_command.WalkForm.TheVariants.{Mark, Push, Combine}
 use Rattle.jj_program.specs.declared.walk_command.TheConstants.{WALK_FORMS}

@@ -50,10 +50,10 @@ abbrev pub line_text : List ℕ → List (List ℕ) → List ℕ
 line_text name fields = name ++ flat_map (λ field. 9 ∷ field) fields ++ 10 ∷ []
 
 -- the output is one result per request, in order
-abbrev pub AnswersEach : {Q : Type 0} → (Q → List ℕ → Type 0) → List Q → List ℕ → Type 0
-AnswersEach IsAnswer [] output = output ≡ []
-AnswersEach IsAnswer (request ∷ requests) output = (answer rest : List ℕ) × IsAnswer request answer
-    × AnswersEach IsAnswer requests rest × (output ≡ answer ++ rest)
+abbrev pub AreLinesOf : {Q : Type 0} → (Q → List ℕ → Type 0) → List Q → List ℕ → Type 0
+AreLinesOf IsLine [] output = output ≡ []
+AreLinesOf IsLine (request ∷ requests) output = (line rest : List ℕ) × IsLine request line
+    × AreLinesOf IsLine requests rest × (output ≡ line ++ rest)
 
 -- 3. Results and values of private functions.
 

@@ -7,15 +7,15 @@ use Rattle.jj_merges.specs.Resolution.{ResolvesTo}
 use Rattle.jj_merges.specs.Simplify.{simplified_indices, at_indices}
 use Rattle.jj_program.specs.declared.fault.Fault.{Fault}
 use Rattle.jj_program.specs.declared.fault.LineFault.{LineFault}
-use Rattle.jj_program.specs.declared.merge_command.Question.{Question}
-use Rattle.jj_program.specs.declared.merge_command.Question.TheVariants.{Simplify, Resolve}
+use Rattle.jj_program.specs.declared.merge_command.MergeForm.{MergeForm}
+use Rattle.jj_program.specs.declared.merge_command.MergeForm.TheVariants.{Simplify, Resolve}
 use Rattle.jj_program.specs.declared.merge_command.TheConstants.{MERGE_FORMS}
 use Rattle.jj_program.specs.Forms.{form_line, table}
-use Rattle.jj_program.specs.Lines.{AnswersEach, line_text, lines_of, after_lines, result_and_then}
+use Rattle.jj_program.specs.Lines.{AreLinesOf, line_text, lines_of, after_lines, result_and_then}
 
 -- a requested operation and the terms of its merge, adds at even indices and removes at odd ones
 abbrev pub MergeRequest : Type 0
-MergeRequest = Question × List (List ℕ)
+MergeRequest = MergeForm × List (List ℕ)
 
 -- appends the request of a line
 abbrev pub merge_step : List MergeRequest → List (List ℕ) → Result (List MergeRequest) LineFault
@@ -38,14 +38,14 @@ outcome_line (Some term) = line_text (codes "resolved") (term ∷ [])
 outcome_line None = line_text (codes "conflict") []
 
 -- the line of a request
-abbrev pub IsMergeAnswer : MergeRequest → List ℕ → Type 0
-IsMergeAnswer (Simplify, terms) answer = answer
+abbrev pub IsMergeLine : MergeRequest → List ℕ → Type 0
+IsMergeLine (Simplify, terms) line = line
     ≡ line_text (codes "terms") (at_indices terms (simplified_indices bytes_eq terms))
-IsMergeAnswer (Resolve same_change, terms) answer = (outcome : Option (List ℕ))
-    × IsOutcome same_change terms outcome × (answer ≡ outcome_line outcome)
+IsMergeLine (Resolve same_change, terms) line = (outcome : Option (List ℕ))
+    × IsOutcome same_change terms outcome × (line ≡ outcome_line outcome)
 
 -- the output has one line per request; or the input has this fault
-abbrev pub GivesMerge : List ℕ → Result (List ℕ) Fault → Type 0
-GivesMerge text (Ok output) = (requests : List MergeRequest) × (merge_requests text ≡ Ok requests)
-    × AnswersEach IsMergeAnswer requests output
-GivesMerge text (Err fault) = merge_requests text ≡ Err fault
+abbrev pub IsMergeResult : List ℕ → Result (List ℕ) Fault → Type 0
+IsMergeResult text (Ok output) = (requests : List MergeRequest)
+    × (merge_requests text ≡ Ok requests) × AreLinesOf IsMergeLine requests output
+IsMergeResult text (Err fault) = merge_requests text ≡ Err fault

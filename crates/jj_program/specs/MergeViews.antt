@@ -7,34 +7,34 @@ use Rattle.std.specs.declared.cmp.Ordering.{Ordering}
 use Rattle.jj_merges.specs.Merge.{adds, removes}
 use Rattle.jj_program.specs.declared.fault.Fault.{Fault}
 use Rattle.jj_program.specs.declared.fault.StepFault.{StepFault}
-use Rattle.jj_program.specs.MergeCommand.{MergeRequest, IsMergeAnswer, merge_step}
-use Rattle.jj_program.specs.Lines.{AnswersEach, IsFaultOf, IsStepFaultOf, Text, after_line}
+use Rattle.jj_program.specs.MergeCommand.{MergeRequest, IsMergeLine, merge_step}
+use Rattle.jj_program.specs.Lines.{AreLinesOf, IsFaultOf, IsStepFaultOf, Text, after_line}
 use Rattle.std.specs.Str.{bytes_eq}
 use Rattle.jj_merges.specs.declared.merge.SameChange.{SameChange}
 use Rattle.jj_merges.specs.Resolution.{ResolvesTo}
 
 -- the line with these fields appends the output line of its request to those before it
-abbrev pub AnswersFields : List (List ℕ) → List ℕ → List ℕ → Type 0
-AnswersFields fields old new = (requests : List MergeRequest)
-    → AnswersEach IsMergeAnswer requests old
+abbrev pub PerformsFields : List (List ℕ) → List ℕ → List ℕ → Type 0
+PerformsFields fields old new = (requests : List MergeRequest)
+    → AreLinesOf IsMergeLine requests old
     → (next : List MergeRequest) × (merge_step requests fields ≡ Ok next)
-    × AnswersEach IsMergeAnswer next new
+    × AreLinesOf IsMergeLine next new
 
 -- a line appends the output line of its request to those before it, unless it is empty
-abbrev pub AnswersLine : ℕ → List ℕ → List ℕ → List ℕ → Type 0
-AnswersLine number line old new = (requests : List MergeRequest)
-    → AnswersEach IsMergeAnswer requests old
+abbrev pub PerformsLine : ℕ → List ℕ → List ℕ → List ℕ → Type 0
+PerformsLine number line old new = (requests : List MergeRequest)
+    → AreLinesOf IsMergeLine requests old
     → (next : List MergeRequest) × (after_line merge_step number requests line ≡ Ok next)
-    × AnswersEach IsMergeAnswer next new
+    × AreLinesOf IsMergeLine next new
 
 -- the fault of the fields of a line, after any requests
-abbrev pub FaultsFields : StepFault → List (List ℕ) → Type 0
-FaultsFields fault fields = (requests : List MergeRequest)
+abbrev pub IsFaultOfFields : StepFault → List (List ℕ) → Type 0
+IsFaultOfFields fault fields = (requests : List MergeRequest)
     → IsStepFaultOf fault (merge_step requests fields)
 
 -- the fault of a line, after any requests
-abbrev pub FaultsLine : Fault → ℕ → List ℕ → Type 0
-FaultsLine fault number line = (requests : List MergeRequest)
+abbrev pub IsFaultOfLine : Fault → ℕ → List ℕ → Type 0
+IsFaultOfLine fault number line = (requests : List MergeRequest)
     → IsFaultOf fault (after_line merge_step number requests line)
 
 -- equality of bytes

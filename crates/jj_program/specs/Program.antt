@@ -10,9 +10,9 @@ use Rattle.jj_program.specs.declared.fault.Fault.{Fault}
 use Rattle.jj_program.specs.declared.fault.Fault.TheVariants.{ReadInput, NotUtf8, Memory, WriteOutput}
 use Rattle.jj_program.specs.declared.program.Command.{Command}
 use Rattle.jj_program.specs.declared.program.Command.TheVariants.{Walk, Merge, Graph, Hash}
-use Rattle.jj_program.specs.WalkCommand.{GivesWalk}
-use Rattle.jj_program.specs.MergeCommand.{GivesMerge}
-use Rattle.jj_program.specs.GraphCommand.{GivesGraph}
+use Rattle.jj_program.specs.WalkCommand.{IsWalkResult}
+use Rattle.jj_program.specs.MergeCommand.{IsMergeResult}
+use Rattle.jj_program.specs.GraphCommand.{IsGraphResult}
 use Rattle.jj_program.specs.HashCommand.{hash_output}
 
 -- the command with this name
@@ -31,16 +31,16 @@ command_line (word ∷ []) = command_named word
 command_line (word ∷ other ∷ words) = None
 
 -- the result of a command on UTF-8 input: its output, or the first fault
-abbrev pub GivesText : Command → List ℕ → Result (List ℕ) Fault → Type 0
-GivesText Walk text = GivesWalk text
-GivesText Merge text = GivesMerge text
-GivesText Graph text = GivesGraph text
-GivesText Hash text = λ answer. hash_output text ≡ answer
+abbrev pub HasResultOnText : Command → List ℕ → Result (List ℕ) Fault → Type 0
+HasResultOnText Walk text = IsWalkResult text
+HasResultOnText Merge text = IsMergeResult text
+HasResultOnText Graph text = IsGraphResult text
+HasResultOnText Hash text = λ result. hash_output text ≡ result
 
 -- the result of a command on any input: input that is not UTF-8 is a fault
-abbrev pub Gives : Command → List ℕ → Result (List ℕ) Fault → Type 0
-Gives command input answer = MatchBool (is_utf8 input) (GivesText command input answer)
-    (answer ≡ Err NotUtf8)
+abbrev pub HasResult : Command → List ℕ → Result (List ℕ) Fault → Type 0
+HasResult command input result = MatchBool (is_utf8 input) (HasResultOnText command input result)
+    (result ≡ Err NotUtf8)
 
 -- the fault is a failed read
 abbrev pub is_read_failure : Fault → Bool
@@ -63,14 +63,15 @@ is_write_fault (Err fault) = is_write_failure fault
 is_write_fault (Ok x) = false
 
 -- the source was read to its end, and this is the command's result for its bytes
-abbrev pub Answers : Command → (before after : Streams) → Result (List ℕ) Fault → Type 0
-Answers command before after answer = (input : List ℕ)
-    × Consumes before.unread after.unread input × IsAtEnd after.unread × Gives command input answer
+abbrev pub ReadsToResult : Command → (before after : Streams) → Result (List ℕ) Fault → Type 0
+ReadsToResult command before after result = (input : List ℕ)
+    × Consumes before.unread after.unread input × IsAtEnd after.unread
+    × HasResult command input result
 
 -- the source was read to its end, and the whole output was written
 abbrev pub WritesOutput : Command → (before after : Streams) → Type 0
 WritesOutput command before after = (output : List ℕ)
-    × Answers command before after (Ok output) × Appends before.written after.written output
+    × ReadsToResult command before after (Ok output) × Appends before.written after.written output
 
 -- the streams after a failed run: nothing was written, unless a write failed, which leaves a prefix
 -- of the output
@@ -78,13 +79,14 @@ abbrev pub FailsBy : Command → (before after : Streams) → Fault → Type 0
 FailsBy command before after ReadInput = Keeps before.written after.written
 FailsBy command before after Memory = Keeps before.written after.written
 FailsBy command before after WriteOutput = (output : List ℕ)
-    × Answers command before after (Ok output) × AppendsPrefixOf before.written after.written output
+    × ReadsToResult command before after (Ok output)
+    × AppendsPrefixOf before.written after.written output
 FailsBy command before after fault =
-    Answers command before after (Err fault) × Keeps before.written after.written
+    ReadsToResult command before after (Err fault) × Keeps before.written after.written
 
 -- the input has this fault, or memory ran out
 abbrev pub IsFaultOfInput : Command → List ℕ → Fault → Type 0
 IsFaultOfInput command input Memory = Unit {0}
 IsFaultOfInput command input ReadInput = ⊥
 IsFaultOfInput command input WriteOutput = ⊥
-IsFaultOfInput command input fault = Gives command input (Err fault)
+IsFaultOfInput command input fault = HasResult command input (Err fault)

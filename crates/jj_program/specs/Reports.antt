@@ -1,5 +1,6 @@
 -- Messages of faults, and lines on standard error.
--- Cited by contracts of public items: Says, fault_text, line_fault_text, report_text, usage_text.
+-- Cited by contracts of public items: WritesLine, fault_text, line_fault_text, report_text,
+-- usage_text.
 use Rattle.std.specs.Prelude.{ℕ, List, ◌++◌, codes, ◌≡◌, [], ◌∷◌, Bool, false, Option}
 use Rattle.std.specs.Fmt.{decimal}
 use Rattle.jj_program.specs.declared.fault.LineFault.{LineFault}
@@ -36,6 +37,6 @@ abbrev pub report_text : Fault → List ℕ
 report_text fault = codes "jj-core: " ++ fault_text fault ++ 10 ∷ []
 
 -- the line was appended, or a prefix of it by a sink that then failed
-abbrev pub Says : (before after : Option (List ℕ)) → (failed : Bool) → List ℕ → Type 0
-Says before after failed line =
+abbrev pub WritesLine : (before after : Option (List ℕ)) → (failed : Bool) → List ℕ → Type 0
+WritesLine before after failed line =
     AppendsPrefixOf before after line × (failed ≡ false → Appends before after line)

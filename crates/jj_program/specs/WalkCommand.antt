@@ -191,8 +191,8 @@ walk_lines set tree = path_lines (codes "file") (files_of (spec_of set).accepts 
     ++ path_lines (codes "enter") (entered_by (spec_of set).visits tree)
 
 -- the output of an input is that of a walk over the tree of its marks; or the input has this fault
-abbrev pub GivesWalk : List ℕ → Result (List ℕ) Fault → Type 0
-GivesWalk text (Ok output) = (request : WalkRequest) × (walk_request text ≡ Ok request)
+abbrev pub IsWalkResult : List ℕ → Result (List ℕ) Fault → Type 0
+IsWalkResult text (Ok output) = (request : WalkRequest) × (walk_request text ≡ Ok request)
     × ((tree : Tree Bool) × IsMarkedTree request.marks tree
     × (output ≡ walk_lines request.set tree))
-GivesWalk text (Err fault) = walk_request text ≡ Err fault
+IsWalkResult text (Err fault) = walk_request text ≡ Err fault

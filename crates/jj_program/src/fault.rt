@@ -1,6 +1,6 @@
 //! Error types of the program, and error reporting on standard error, without allocation.
 ghost use Rattle.std.specs.Prelude.{◌≡◌, ◌++◌, ℕ, List, Some, false, flat_map};
-ghost use Rattle.jj_program.specs.Reports.{Says, fault_text, line_fault_text, report_text, usage_text};
+ghost use Rattle.jj_program.specs.Reports.{WritesLine, fault_text, line_fault_text, report_text, usage_text};
 ghost use Rattle.jj_program.specs.declared.fault.Fault.{Fault};
 ghost use Rattle.jj_program.specs.declared.fault.StepFault.{StepFault};
 
@@ -60,7 +60,7 @@ impl LineFault {
 
 impl Fault {
     // The message as four parts to be concatenated; a number is formatted into `digits`.
-    pub(crate) fn as_texts(self, digits: &mut Buffer) -> (&str, &str, &str, &str)
+    pub(crate) fn message_parts(self, digits: &mut Buffer) -> (&str, &str, &str, &str)
         ensures { result.0.now ++ result.1.now ++ result.2.now ++ result.3.now ≡ fault_text self }
     {
         match self {
@@ -87,7 +87,7 @@ impl fmt::Display for Fault {
 
     fn fmt<W: fmt::Write>(&self, f: &mut fmt::Formatter<W>) -> fmt::Result {
         let mut digits = Buffer::new();
-        let (first, second, third, fourth) = self.as_texts(&mut digits);
+        let (first, second, third, fourth) = self.message_parts(&mut digits);
         write!(f, "{first}{second}{third}{fourth}")
     }
 }
@@ -132,9 +132,9 @@ impl<T: Drop> From<AllocFailed<T>> for StepFault {
 const USAGE: &str = "usage: jj-core walk|merge|graph|hash\n";
 
 // Writes these parts of a line, and stops silently at the first write that fails.
-fn say<E: Sink>(errors: &mut E, texts: &[&str])
+fn write_line<E: Sink>(errors: &mut E, texts: &[&str])
     requires { E.has_failed errors.old ≡ false }
-    ensures { Says (E.contents errors.old) (E.contents errors.new) (E.has_failed errors.new)
+    ensures { WritesLine (E.contents errors.old) (E.contents errors.new) (E.has_failed errors.new)
         (flat_map (λ text. text.now) texts.now) }
 {
     for index in 0..texts.len() {
@@ -147,19 +147,19 @@ fn say<E: Sink>(errors: &mut E, texts: &[&str])
 // Prints the usage line.
 pub(crate) fn report_usage<E: Sink>(errors: &mut E)
     requires { E.has_failed errors.old ≡ false }
-    ensures { Says (E.contents errors.old) (E.contents errors.new) (E.has_failed errors.new)
+    ensures { WritesLine (E.contents errors.old) (E.contents errors.new) (E.has_failed errors.new)
         usage_text }
 {
-    say(errors, &[USAGE]);
+    write_line(errors, &[USAGE]);
 }
 
 // Prints one line that describes the fault.
 pub(crate) fn report_fault<E: Sink>(errors: &mut E, fault: Fault)
     requires { E.has_failed errors.old ≡ false }
-    ensures { Says (E.contents errors.old) (E.contents errors.new) (E.has_failed errors.new)
+    ensures { WritesLine (E.contents errors.old) (E.contents errors.new) (E.has_failed errors.new)
         (report_text fault) }
 {
     let mut digits = Buffer::new();
-    let (first, second, third, fourth) = fault.as_texts(&mut digits);
-    say(errors, &["jj-core: ", first, second, third, fourth, "\n"]);
+    let (first, second, third, fourth) = fault.message_parts(&mut digits);
+    write_line(errors, &["jj-core: ", first, second, third, fourth, "\n"]);
 }

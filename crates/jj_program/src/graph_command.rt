@@ -5,7 +5,7 @@ ghost use Rattle.std.specs.List.{Contains};
 ghost use Rattle.std.specs.Str.Parse.{digits_value};
 ghost use Rattle.jj_program.specs.Lines.{IsFaultOf, Agrees};
 ghost use Rattle.jj_program.specs.ListedGraphs.{named_by, shown_by};
-ghost use Rattle.jj_program.specs.GraphCommand.{GraphState, HasCycle, is_number, AnswersRequest, GivesGraph, graph_state, graph_step, number_kind, numbers_line, with_node, with_request};
+ghost use Rattle.jj_program.specs.GraphCommand.{GraphState, HasCycle, is_number, IsLineOfRequest, IsGraphResult, graph_state, graph_step, number_kind, numbers_line, with_node, with_request};
 ghost use Rattle.jj_program.specs.GraphViews.{ids_of, graph_request_of, graph_state_of};
 
 use crate::edges::Edges;
@@ -104,7 +104,7 @@ impl GraphReading {
     }
 
     // Appends a request.
-    fn ask(&mut self, request: GraphRequest) -> Result<(), StepFault>
+    fn push_request(&mut self, request: GraphRequest) -> Result<(), StepFault>
         ensures { Agrees result (λ _. graph_state_of self.new)
             (with_request (graph_state_of self.old) (graph_request_of request)) }
     {
@@ -126,16 +126,16 @@ impl<'t> Reading<'t> for GraphReading {
             GraphForm::Node => self.list(),
             GraphForm::Order => {
                 let ids = self.ids.take_firsts(alloc);
-                self.ask(GraphRequest::Order(ids))
+                self.push_request(GraphRequest::Order(ids))
             }
             GraphForm::Heads => {
                 let ids = self.ids.take_firsts(alloc);
-                self.ask(GraphRequest::Heads(ids))
+                self.push_request(GraphRequest::Heads(ids))
             }
             GraphForm::Common => {
                 let set1 = self.ids.take_firsts(alloc);
                 let set2 = self.ids.take_seconds(alloc);
-                self.ask(GraphRequest::Common(set1, set2))
+                self.push_request(GraphRequest::Common(set1, set2))
             }
         }
     }
@@ -143,7 +143,7 @@ impl<'t> Reading<'t> for GraphReading {
 
 // Returns the output of `graph` for an input.
 pub(crate) fn graph_output(alloc: Global, text: &str) -> Result<Vec<u8>, Fault>
-    ensures done { IfOk result (λ output. GivesGraph text.now (Ok output.items)) }
+    ensures done { IfOk result (λ output. IsGraphResult text.now (Ok output.items)) }
     ensures fault { IfErr result (λ fault. IsFaultOf fault (graph_state text.now)) }
 {
     let mut reading = GraphReading {
@@ -161,7 +161,7 @@ pub(crate) fn graph_output(alloc: Global, text: &str) -> Result<Vec<u8>, Fault>
     if requests.is_empty() {
         return Ok(Vec::new(alloc));
     }
-    let graph = ListedGraph::new(alloc, edges, asked_ids(alloc, &requests)?)?;
+    let graph = ListedGraph::new(alloc, edges, requested_ids(alloc, &requests)?)?;
     let mut visited = Visited::new(alloc);
     let cyclic = has_cycle(alloc, &graph)?;
     let mut output = String::new(alloc);
@@ -169,32 +169,32 @@ pub(crate) fn graph_output(alloc: Global, text: &str) -> Result<Vec<u8>, Fault>
         if cyclic {
             output.push_str("cycle\n")?;
         } else {
-            push_answer(alloc, &mut output, &mut visited, &graph, request)?;
+            push_result(alloc, &mut output, &mut visited, &graph, request)?;
         }
     }
     Ok(output.into_bytes())
 }
 
 // Collects the ids of all requests.
-fn asked_ids(alloc: Global, requests: &[GraphRequest]) -> Result<Vec<u64>, AllocError>
+fn requested_ids(alloc: Global, requests: &[GraphRequest]) -> Result<Vec<u64>, AllocError>
     ensures { IfOk result (λ ids. All
         (λ request. All (Contains ids.items) (ids_of (graph_request_of request))) requests.now) }
 {
     let mut ids = Vec::new(alloc);
     for request in requests {
-        push_asked(&mut ids, request)?;
+        push_requested(&mut ids, request)?;
     }
     Ok(ids)
 }
 
 // Appends the ids of a request.
-fn push_asked(ids: &mut Vec<u64>, request: &GraphRequest) -> Result<(), AllocError>
+fn push_requested(ids: &mut Vec<u64>, request: &GraphRequest) -> Result<(), AllocError>
     ensures { OnOk result (ids.new.items
         ≡ ids.old.items ++ ids_of (graph_request_of request.now)) }
 {
     match request {
-        GraphRequest::Order(asked) => ids.extend_from_slice(asked.as_slice()),
-        GraphRequest::Heads(asked) => ids.extend_from_slice(asked.as_slice()),
+        GraphRequest::Order(requested) => ids.extend_from_slice(requested.as_slice()),
+        GraphRequest::Heads(requested) => ids.extend_from_slice(requested.as_slice()),
         GraphRequest::Common(set1, set2) => {
             ids.extend_from_slice(set1.as_slice())?;
             ids.extend_from_slice(set2.as_slice())
@@ -203,7 +203,7 @@ fn push_asked(ids: &mut Vec<u64>, request: &GraphRequest) -> Result<(), AllocErr
 }
 
 // Runs a request on an acyclic graph and appends its line to the output.
-fn push_answer(
+fn push_result(
     alloc: Global,
     output: &mut String,
     visited: &mut Visited,
@@ -212,9 +212,9 @@ fn push_answer(
 ) -> Result<(), AllocError>
     requires acyclic { ¬ (HasCycle (shown_by graph.now)) }
     requires named { All (Contains (named_by graph.now)) (ids_of (graph_request_of request.now)) }
-    ensures { OnOk result ((answer : List ℕ)
-        × AnswersRequest (shown_by graph.now) (graph_request_of request.now) answer
-        × (string_bytes output.new ≡ string_bytes output.old ++ answer)) }
+    ensures { OnOk result ((line : List ℕ)
+        × IsLineOfRequest (shown_by graph.now) (graph_request_of request.now) line
+        × (string_bytes output.new ≡ string_bytes output.old ++ line)) }
 {
     match request {
         GraphRequest::Order(ids) => {

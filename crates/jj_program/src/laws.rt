@@ -1,26 +1,26 @@
 //! Laws of the program, as contracts of functions with empty bodies.
-ghost use Rattle.jj_program.specs.Laws.{GivesFirstFault, GivesOneAnswer};
+ghost use Rattle.jj_program.specs.Laws.{FaultsAreOfFirstLines, ResultsAreUnique};
 ghost use Rattle.jj_program.specs.FoundFiles.{FindsItsFiles};
-ghost use Rattle.jj_program.specs.LineFaults.{AnswersFirstFault};
+ghost use Rattle.jj_program.specs.LineFaults.{FaultsAreOfFirstKinds};
 ghost use Rattle.jj_program.specs.LineForms.{HasTheseLines};
 
 /// Each command has exactly one result for an input, one output or one fault: what a run writes is
 /// a function of what it reads.
-pub fn commands_give_one_answer()
-    ensures { GivesOneAnswer }
+pub fn results_are_unique()
+    ensures { ResultsAreUnique }
 {}
 
 /// A line fault names the first faulty line: it does not depend on later lines, and the lines
 /// before it are valid whatever follows them.
 pub fn faults_are_of_first_lines()
-    ensures { GivesFirstFault }
+    ensures { FaultsAreOfFirstLines }
 {}
 
 /// A command reports the first kind of fault, in the order of `LineFault`, of the first line that
 /// has one. Otherwise it returns its output, or, for a walk that does not leave exactly one set,
 /// the number of sets left. Faults are defined over the fields of the input only.
 pub fn faults_are_of_first_kinds()
-    ensures { AnswersFirstFault }
+    ensures { FaultsAreOfFirstKinds }
 {}
 
 /// A walk finds exactly the marked paths below the root that are in the set that its input

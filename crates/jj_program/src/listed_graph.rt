@@ -31,12 +31,12 @@ impl ListedGraph {
     pub(crate) fn new(
         alloc: Global,
         edges: Edges,
-        asked: Vec<u64>,
+        requested: Vec<u64>,
     ) -> Result<ListedGraph, AllocError>
         ensures graph { IfOk result (λ graph. shown_by graph ≡ graph_of (listed_by edges)) }
-        ensures asked { IfOk result (λ graph. All (Contains (named_by graph)) asked.items) }
+        ensures requested { IfOk result (λ graph. All (Contains (named_by graph)) requested.items) }
     {
-        let mut ids = asked;
+        let mut ids = requested;
         ids.extend_from_slice(edges.targets())?;
         let numbering = Numbering::new(alloc, ids)?;
         let targets = numbering.numbers_of(alloc, edges.targets())?;

@@ -2,8 +2,8 @@
 ghost use Rattle.std.specs.Prelude.{◌≡◌, ◌++◌, ℕ, List, Ok, IfOk, IfErr, MatchResult, OnOk, length};
 ghost use Rattle.jj_merges.specs.Merge.{IsOdd};
 ghost use Rattle.jj_program.specs.Lines.{IsFaultOf, fields_of, texts_of};
-ghost use Rattle.jj_program.specs.MergeCommand.{IsMergeAnswer, merge_requests, GivesMerge};
-ghost use Rattle.jj_program.specs.MergeViews.{AnswersFields, AnswersLine, FaultsFields, FaultsLine};
+ghost use Rattle.jj_program.specs.MergeCommand.{IsMergeLine, merge_requests, IsMergeResult};
+ghost use Rattle.jj_program.specs.MergeViews.{PerformsFields, PerformsLine, IsFaultOfFields, IsFaultOfLine};
 
 use crate::fault::{Fault, StepFault};
 use crate::forms::{Shape, form_line};
@@ -14,16 +14,16 @@ use std::alloc::{AllocError, Global};
 
 // The operation that a line requests.
 #[derive(Clone, Copy)]
-pub(crate) enum Question {
+pub(crate) enum MergeForm {
     Simplify,
     Resolve(SameChange),
 }
 
 // The lines of `merge`.
-pub(crate) const MERGE_FORMS: &[(&str, Shape, Question)] = &[
-    ("simplify", Shape::Odd, Question::Simplify),
-    ("keep", Shape::Odd, Question::Resolve(SameChange::Keep)),
-    ("accept", Shape::Odd, Question::Resolve(SameChange::Accept)),
+pub(crate) const MERGE_FORMS: &[(&str, Shape, MergeForm)] = &[
+    ("simplify", Shape::Odd, MergeForm::Simplify),
+    ("keep", Shape::Odd, MergeForm::Resolve(SameChange::Keep)),
+    ("accept", Shape::Odd, MergeForm::Resolve(SameChange::Accept)),
 ];
 
 // Builds a merge of an odd number of terms.
@@ -39,7 +39,7 @@ pub(crate) fn merge_of<'t>(alloc: Global, terms: &[&'t str]) -> Result<Merge<&'t
 // Returns the output of `merge` for an input. Each line is performed as it is read, so that only
 // its output is stored.
 pub(crate) fn merge_output(alloc: Global, text: &str) -> Result<Vec<u8>, Fault>
-    ensures done { IfOk result (λ output. GivesMerge text.now (Ok output.items)) }
+    ensures done { IfOk result (λ output. IsMergeResult text.now (Ok output.items)) }
     ensures fault { IfErr result (λ fault. IsFaultOf fault (merge_requests text.now)) }
 {
     // All lines share the list of fields, so that a line needs no allocation of its own.
@@ -49,7 +49,7 @@ pub(crate) fn merge_output(alloc: Global, text: &str) -> Result<Vec<u8>, Fault>
     let mut line_number = 1;
     loop {
         let end = split_line(&mut fields, rest)?;
-        answer_line(alloc, &mut output, line_number, &rest[..end], &fields)?;
+        perform_line(alloc, &mut output, line_number, &rest[..end], &fields)?;
         if end == rest.len() {
             return Ok(output);
         }
@@ -59,7 +59,7 @@ pub(crate) fn merge_output(alloc: Global, text: &str) -> Result<Vec<u8>, Fault>
 }
 
 // Performs a line with these fields, unless it is empty.
-fn answer_line(
+fn perform_line(
     alloc: Global,
     output: &mut Vec<u8>,
     line_number: usize,
@@ -68,13 +68,13 @@ fn answer_line(
 ) -> Result<(), Fault>
     requires { texts_of fields.now ≡ fields_of line.now }
     ensures { MatchResult result
-        (λ _. AnswersLine line_number line.now output.old.items output.new.items)
-        (λ fault. FaultsLine fault line_number line.now) }
+        (λ _. PerformsLine line_number line.now output.old.items output.new.items)
+        (λ fault. IsFaultOfLine fault line_number line.now) }
 {
     if line.is_empty() {
         return Ok(());
     }
-    match answer_fields(alloc, output, fields) {
+    match perform_fields(alloc, output, fields) {
         Ok(()) => Ok(()),
         Err(StepFault::Memory) => Err(Fault::Memory),
         Err(StepFault::Line(kind)) => Err(Fault::Line {
@@ -85,31 +85,31 @@ fn answer_line(
 }
 
 // Performs the operation that a line with these fields requests.
-fn answer_fields(alloc: Global, output: &mut Vec<u8>, fields: &[&str]) -> Result<(), StepFault>
+fn perform_fields(alloc: Global, output: &mut Vec<u8>, fields: &[&str]) -> Result<(), StepFault>
     ensures { MatchResult result
-        (λ _. AnswersFields (texts_of fields.now) output.old.items output.new.items)
-        (λ fault. FaultsFields fault (texts_of fields.now)) }
+        (λ _. PerformsFields (texts_of fields.now) output.old.items output.new.items)
+        (λ fault. IsFaultOfFields fault (texts_of fields.now)) }
 {
-    let (question, _shape, terms) = form_line(MERGE_FORMS, fields)?;
-    push_answer(alloc, output, question, terms)?;
+    let (form, _shape, terms) = form_line(MERGE_FORMS, fields)?;
+    push_result(alloc, output, form, terms)?;
     Ok(())
 }
 
 // Performs an operation and appends its line to the output.
-fn push_answer(
+fn push_result(
     alloc: Global,
     output: &mut Vec<u8>,
-    question: Question,
+    form: MergeForm,
     terms: &[&str],
 ) -> Result<(), AllocError>
     requires { IsOdd (length terms.now) }
-    ensures { OnOk result ((answer : List ℕ)
-        × IsMergeAnswer (question, texts_of terms.now) answer
-        × (output.new.items ≡ output.old.items ++ answer)) }
+    ensures { OnOk result ((line : List ℕ)
+        × IsMergeLine (form, texts_of terms.now) line
+        × (output.new.items ≡ output.old.items ++ line)) }
 {
-    match question {
-        Question::Simplify => push_simplified(alloc, output, terms),
-        Question::Resolve(same_change) => {
+    match form {
+        MergeForm::Simplify => push_simplified(alloc, output, terms),
+        MergeForm::Resolve(same_change) => {
             let found = outcome(alloc, terms, same_change)?;
             match found {
                 Some(term) => push_line(output, "resolved", &[term]),
@@ -123,9 +123,9 @@ fn push_answer(
 // own: most merges are so short.
 fn push_simplified(alloc: Global, output: &mut Vec<u8>, terms: &[&str]) -> Result<(), AllocError>
     requires { IsOdd (length terms.now) }
-    ensures { OnOk result ((answer : List ℕ)
-        × IsMergeAnswer (Question.Simplify, texts_of terms.now) answer
-        × (output.new.items ≡ output.old.items ++ answer)) }
+    ensures { OnOk result ((line : List ℕ)
+        × IsMergeLine (MergeForm.Simplify, texts_of terms.now) line
+        × (output.new.items ≡ output.old.items ++ line)) }
 {
     match terms {
         [_] => push_line(output, "terms", terms),

@@ -142,7 +142,7 @@ fn find(counts: &[ValueCount<'_>], near: usize, text: &str) -> Option<usize>
 }
 
 // Resolves the merges with these counts.
-pub(crate) fn decided_counts<'t>(
+pub(crate) fn outcome_of_counts<'t>(
     counts: &[ValueCount<'t>],
     same_change: SameChange,
 ) -> Option<&'t str>

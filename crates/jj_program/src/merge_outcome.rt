@@ -8,7 +8,7 @@ ghost use Rattle.jj_merges.specs.Merge as merge;
 ghost use Rattle.jj_program.specs.Lines.{Text};
 ghost use Rattle.jj_program.specs.MergeViews.{text_eq, text_cmp, is_other, HaveCountsOf, IsTextOutcome, ResolvesSides, IsUnmatched, IsMatched};
 
-use crate::merge_counts::{counted, decided_counts};
+use crate::merge_counts::{counted, outcome_of_counts};
 use crate::text_sort::sort_texts;
 use jj_merges::merge::{SameChange, trivial_merge};
 use std::alloc::{AllocError, Global};
@@ -28,10 +28,10 @@ pub(crate) fn outcome<'t>(
     ensures { IfOk result (IsTextOutcome same_change terms.now) }
 {
     if terms.len() < MANY_TERMS {
-        return Ok(decided_text(terms, same_change));
+        return Ok(outcome_of_terms(terms, same_change));
     }
     if let Some(counts) = counted(alloc, terms)? {
-        return Ok(decided_counts(&counts, same_change));
+        return Ok(outcome_of_counts(&counts, same_change));
     }
     if conflicts_at_start(terms, same_change) {
         return Ok(None);
@@ -42,10 +42,10 @@ pub(crate) fn outcome<'t>(
     let mut entries = Vec::with_capacity(alloc, adds.len())?;
     sort_texts(&mut entries, &mut adds)?;
     sort_texts(&mut entries, &mut removes)?;
-    Ok(decided_sides(&adds, &removes, same_change))
+    Ok(outcome_of_sides(&adds, &removes, same_change))
 }
 
-fn decided_text<'t>(terms: &[&'t str], same_change: SameChange) -> Option<&'t str>
+fn outcome_of_terms<'t>(terms: &[&'t str], same_change: SameChange) -> Option<&'t str>
     requires { IsOdd (length terms.now) }
     ensures { IsTextOutcome same_change terms.now result }
 {
@@ -155,7 +155,7 @@ fn cancel_or_push<'t>(
 // Resolves the merges with the signed counts of these sides, which are sorted and one more adds
 // than removes. Cancels equal values by merging the two lists, and stops at the first two values
 // left on one side.
-fn decided_sides<'t>(
+fn outcome_of_sides<'t>(
     adds: &[&'t str],
     removes: &[&'t str],
     same_change: SameChange,

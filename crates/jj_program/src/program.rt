@@ -4,8 +4,8 @@ ghost use Rattle.std.specs.Prelude.{◌≡◌, ◌≢◌, ◌<◌, length, map, 
 ghost use Rattle.std.specs.Io.KnownBytes.{Consumes, IsAtEnd, Keeps};
 ghost use Rattle.jj_files.specs.Streams.{streams};
 ghost use Rattle.jj_program.specs.Lines.{IsFaultOf};
-ghost use Rattle.jj_program.specs.Program.{command_named, command_line, Gives, is_read_failure, is_write_failure, is_read_fault, is_write_fault, WritesOutput, FailsBy, IsFaultOfInput};
-ghost use Rattle.jj_program.specs.Reports.{usage_text, report_text, Says};
+ghost use Rattle.jj_program.specs.Program.{command_named, command_line, HasResult, is_read_failure, is_write_failure, is_read_fault, is_write_fault, WritesOutput, FailsBy, IsFaultOfInput};
+ghost use Rattle.jj_program.specs.Reports.{usage_text, report_text, WritesLine};
 ghost use Rattle.jj_program.specs.declared.fault.Fault.{Fault};
 
 pub use crate::fault::{Fault, LineFault};
@@ -72,7 +72,7 @@ fn read_input<R: Source>(alloc: Global, reader: &mut R) -> Result<Vec<u8>, Fault
 
 // Validates the input as UTF-8 and runs the command on it.
 fn output(alloc: Global, command: Command, input: &[u8]) -> Result<Vec<u8>, Fault>
-    ensures done { IfOk result (λ output. Gives command input.now (Ok output.items)) }
+    ensures done { IfOk result (λ output. HasResult command input.now (Ok output.items)) }
     ensures fault { IfErr result (λ fault. IsFaultOfInput command input.now fault) }
 {
     let Ok(text) = str::from_utf8(input) else {
@@ -144,7 +144,7 @@ pub fn start<R: Source, W: Sink, E: Sink>(
     ensures usage { command_line (map string_bytes words.now) ≡ None → (result ≡ 2)
         × (R.remaining reader.new ≡ R.remaining reader.old)
         × (W.contents writer.new ≡ W.contents writer.old)
-        × Says (E.contents errors.old) (E.contents errors.new) (E.has_failed errors.new)
+        × WritesLine (E.contents errors.old) (E.contents errors.new) (E.has_failed errors.new)
         usage_text }
     ensures status { IsSome (command_line (map string_bytes words.now)) → result < 2 }
     ensures success { IfSome (command_line (map string_bytes words.now)) (λ command. result ≡ 0 →
@@ -157,7 +157,7 @@ pub fn start<R: Source, W: Sink, E: Sink>(
         (streams (R.remaining reader.new) (W.contents writer.new)) fault
         × (R.has_failed reader.new ≡ is_read_failure fault)
         × (W.has_failed writer.new ≡ is_write_failure fault)
-        × Says (E.contents errors.old) (E.contents errors.new) (E.has_failed errors.new)
+        × WritesLine (E.contents errors.old) (E.contents errors.new) (E.has_failed errors.new)
         (report_text fault)) }
 {
     let Some(command) = command_of(words) else {

@@ -7,7 +7,7 @@ ghost use Rattle.jj_paths.specs.Tree.{Tree};
 ghost use Rattle.jj_globs.specs.GlobMeaning.{GlobSpec};
 ghost use Rattle.jj_matchers.specs.Marks.{IsMarkedTree};
 ghost use Rattle.jj_program.specs.Lines.{IsFaultOf};
-ghost use Rattle.jj_program.specs.WalkCommand.{SetTree, WalkState, glob_kind, path_kind, walk_step, walk_request, GivesWalk, walk_lines, path_lines};
+ghost use Rattle.jj_program.specs.WalkCommand.{SetTree, WalkState, glob_kind, path_kind, walk_step, walk_request, IsWalkResult, walk_lines, path_lines};
 ghost use Rattle.jj_program.specs.declared.file_set.matcher.FileSet.{FileSet};
 ghost use Rattle.jj_program.specs.SetCode.{sets_of};
 
@@ -122,7 +122,7 @@ impl<'t> Reading<'t> for WalkReading<'t> {
 
 // Returns the output of `walk` for an input.
 pub(crate) fn walk_output<'t>(alloc: Global, text: &'t str) -> Result<Vec<u8>, Fault>
-    ensures done { IfOk result (λ output. GivesWalk text.now (Ok output.items)) }
+    ensures done { IfOk result (λ output. IsWalkResult text.now (Ok output.items)) }
     ensures fault { IfErr result (λ fault. IsFaultOf fault (walk_request text.now)) }
 {
     let mut reading = WalkReading {

@@ -9,8 +9,8 @@ use Rattle.jj_program.specs.declared.fault.Fault.{Fault}
 use Rattle.jj_program.specs.declared.fault.Fault.TheVariants.{ReadInput, NotUtf8, Memory, WriteOutput, Matchers, Line}
 use Rattle.jj_program.specs.declared.program.Command.{Command}
 use Rattle.jj_program.specs.declared.program.Command.TheVariants.{Walk}
-use Rattle.jj_program.specs.LineFaults.{AnswersFirstFault}
-use Rattle.jj_program.specs.Program.{Answers, FailsBy, Gives, GivesText, WritesOutput}
+use Rattle.jj_program.specs.LineFaults.{FaultsAreOfFirstKinds}
+use Rattle.jj_program.specs.Program.{ReadsToResult, FailsBy, HasResult, HasResultOnText, WritesOutput}
 use Rattle.jj_program_tests.specs.Answered.{CanFailBy, IsFaultOfWalk, IsRunOf}
 
 -- a source that was read to its end was consumed whole
@@ -20,8 +20,8 @@ read_all input read (Some rest) consumed end = sym (consumed ∙ ap (λ l. read 
 
 module _ (command : Command) (input source : List ℕ) (is : source ≡ input) (unread written left : Option (List ℕ)) where
   -- the bytes consumed are the input, so its result is that of the input
-  answer_of_input : (answer : Result (List ℕ) Fault) → Answers command (streams (Some source) written) (streams unread left) answer → Gives command input answer
-  answer_of_input answer (read, consumed, end, given) = subst (λ bytes. Gives command bytes answer) (read_all source read unread consumed end ∙ is) given
+  answer_of_input : (answer : Result (List ℕ) Fault) → ReadsToResult command (streams (Some source) written) (streams unread left) answer → HasResult command input answer
+  answer_of_input answer (read, consumed, end, given) = subst (λ bytes. HasResult command bytes answer) (read_all source read unread consumed end ∙ is) given
 
   -- the fault is one of the input, or an end failed
   pub failed : (fault : Fault) → FailsBy command (streams (Some source) written) (streams unread left) fault → CanFailBy command input fault
@@ -34,17 +34,17 @@ module _ (command : Command) (input source : List ℕ) (is : source ≡ input) (
 
 -- the contents of a sink that was empty are the output
 pub wrote : (command : Command) (input source : List ℕ) → source ≡ input → (unread : Option (List ℕ)) (sunk bytes given : List ℕ) → sunk ≡ [] → given ≡ bytes
-    → WritesOutput command (streams (Some source) (Some sunk)) (streams unread (Some bytes)) → Gives command input (Ok given)
+    → WritesOutput command (streams (Some source) (Some sunk)) (streams unread (Some bytes)) → HasResult command input (Ok given)
 wrote command input source is unread sunk bytes given empty same (output, answers, appended) =
     let whole : given ≡ output = same ∙ appended ∙ ap (λ l. l ++ output) empty in
-    subst (λ b. Gives command input (Ok b)) (sym whole) (answer_of_input command input source is unread (Some sunk) (Some bytes) (Ok output) answers)
+    subst (λ b. HasResult command input (Ok b)) (sym whole) (answer_of_input command input source is unread (Some sunk) (Some bytes) (Ok output) answers)
 
 -- the result on a string's bytes is the result on the string
-pub text_gives : (command : Command) (text : List ℕ) (answer : Result (List ℕ) Fault) → IsUtf8 text → Gives command text answer → GivesText command text answer
+pub text_gives : (command : Command) (text : List ℕ) (answer : Result (List ℕ) Fault) → IsUtf8 text → HasResult command text answer → HasResultOnText command text answer
 text_gives command text answer utf8 given = let e : is_utf8 text ≡ true = is_utf8-from_IsUtf8 text utf8 in rw e at given
 
 -- the fault of a walk is determined by its input
-pub walk_fault : AnswersFirstFault → (text : List ℕ) → IsUtf8 text → (fault : Fault) → CanFailBy Walk text fault → IsFaultOfWalk text fault
+pub walk_fault : FaultsAreOfFirstKinds → (text : List ℕ) → IsUtf8 text → (fault : Fault) → CanFailBy Walk text fault → IsFaultOfWalk text fault
 walk_fault law text utf8 ReadInput h = tt
 walk_fault law text utf8 Memory h = tt
 walk_fault law text utf8 WriteOutput h = tt

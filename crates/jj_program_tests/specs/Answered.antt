@@ -7,9 +7,9 @@ use Rattle.jj_program.specs.declared.fault.Fault.TheVariants.{ReadInput, NotUtf8
 use Rattle.jj_program.specs.declared.program.Command.{Command}
 use Rattle.jj_program.specs.declared.program.Command.TheVariants.{Walk}
 use Rattle.jj_program.specs.FoundFiles.{AreFound}
-use Rattle.jj_program.specs.LineFaults.{IsToldBy}
+use Rattle.jj_program.specs.LineFaults.{IsDeterminedBy}
 use Rattle.jj_program.specs.Lines.{lines_of}
-use Rattle.jj_program.specs.Program.{Gives}
+use Rattle.jj_program.specs.Program.{HasResult}
 use Rattle.jj_program.specs.WalkCommand.{WalkRequest, walk_request, path_lines}
 
 -- the input has this fault; or out of memory, for the work or for the output; or more reads than
@@ -17,12 +17,12 @@ use Rattle.jj_program.specs.WalkCommand.{WalkRequest, walk_request, path_lines}
 abbrev pub CanFailBy : Command → List ℕ → Fault → Type 0
 CanFailBy command input ReadInput = Unit {0}
 CanFailBy command input Memory = Unit {0}
-CanFailBy command input WriteOutput = (output : List ℕ) × Gives command input (Ok output)
-CanFailBy command input fault = Gives command input (Err fault)
+CanFailBy command input WriteOutput = (output : List ℕ) × HasResult command input (Ok output)
+CanFailBy command input fault = HasResult command input (Err fault)
 
 -- the exit status is 0 and this is the output, or it is 1 and the command can fail
 abbrev pub IsRunOf : Command → List ℕ → (status : ℕ) → (output : List ℕ) → Type 0
-IsRunOf command input status output = ((status ≡ 0) × Gives command input (Ok output))
+IsRunOf command input status output = ((status ≡ 0) × HasResult command input (Ok output))
     ⊎ ((status ≡ 1) × ((fault : Fault) × CanFailBy command input fault))
 
 -- the output: a line for exactly each marked path in the set that the input describes, then a line
@@ -34,7 +34,7 @@ FindsFiles text output = (request : WalkRequest) × (found entered : List Path)
 
 -- the fault is that of the first faulty line, or the number of sets left if no line is faulty
 abbrev pub IsTold : List ℕ → Fault → Type 0
-IsTold text fault = IsToldBy {A = List ℕ} Walk (lines_of text) (Err fault)
+IsTold text fault = IsDeterminedBy {A = List ℕ} Walk (lines_of text) (Err fault)
 
 -- likewise, or the input was not at fault
 abbrev pub IsFaultOfWalk : List ℕ → Fault → Type 0

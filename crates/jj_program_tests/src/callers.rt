@@ -1,6 +1,6 @@
 //! Proved callers: running a command on an input in memory.
 ghost use Rattle.std.specs.Prelude.{◌≡◌, [], IfErr, IfOk, MatchOption, Ok, map, string_bytes};
-ghost use Rattle.jj_program.specs.Program.{Gives, command_line};
+ghost use Rattle.jj_program.specs.Program.{HasResult, command_line};
 ghost use Rattle.jj_program_tests.specs.Answered.{CanFailBy, FindsFiles, IsFaultOfWalk, IsRunOf};
 
 use jj_files::file_util::Watched;
@@ -10,7 +10,7 @@ use std::alloc::Global;
 
 /// Returns the output of a command for these bytes.
 pub fn answered(alloc: Global, command: Command, input: &[u8]) -> Result<Vec<u8>, Fault>
-    ensures done { IfOk result (λ output. Gives command input.now (Ok output.items)) }
+    ensures done { IfOk result (λ output. HasResult command input.now (Ok output.items)) }
     ensures fails { IfErr result (CanFailBy command input.now) }
 {
     let mut reader = Watched::new(input);

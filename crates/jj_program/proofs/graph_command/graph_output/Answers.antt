@@ -3,13 +3,13 @@ use Rattle.std.specs.Prelude.{All, codes, string_bytes}
 use Rattle.std.specs.List.{Contains}
 use Rattle.std.proofs.lemmas.List.Elements.{All-contains, All-weaker}
 use Rattle.std.proofs.lemmas.List.{nil_from_length, take_all}
-use Rattle.jj_program.specs.Lines.{after_lines, line_text, lines_of, AnswersEach}
+use Rattle.jj_program.specs.Lines.{after_lines, line_text, lines_of, AreLinesOf}
 use Rattle.jj_program.specs.ListedGraphs.{named_by, shown_by}
-use Rattle.jj_program.specs.GraphCommand.{GraphState, IsGraphAnswer, graph_of, graph_step}
+use Rattle.jj_program.specs.GraphCommand.{GraphState, IsGraphLine, graph_of, graph_step}
 use Rattle.jj_program.specs.GraphViews.{ids_of, graph_request_of, graph_state_of}
-use Rattle.jj_program.proofs.Requests.{AnswersEach-more}
+use Rattle.jj_program.proofs.Requests.{AreLinesOf-more}
 use Rattle.jj_program.proofs.graph_command.graph_output.Goals as goal
-use Rattle.jj_program.proofs.graph_command.graph_output.Goals.{then-cyclic+in_ok-push_str, else-cyclic+in_ok-push_answer}
+use Rattle.jj_program.proofs.graph_command.graph_output.Goals.{then-cyclic+in_ok-push_str, else-cyclic+in_ok-push_result}
 
 pub loop-request-preserved : goal.loop-request-preserved
 loop-request-preserved c =
@@ -18,27 +18,27 @@ loop-request-preserved c =
     let i = c.loop-request.request-index in
     let within : i < length items = omega arith in
     let old = string_bytes c.loop-request.output in
-    let more = λ (grown answer : List ℕ) (is : IsGraphAnswer graph (graph_request_of c.request-item.result) answer) (written : grown ≡ old ++ answer).
-    AnswersEach-more (IsGraphAnswer graph) graph_request_of items i c.request-item.result old grown answer within c.request-item.is c.loop-request.invariant is written in
+    let more = λ (grown answer : List ℕ) (is : IsGraphLine graph (graph_request_of c.request-item.result) answer) (written : grown ≡ old ++ answer).
+    AreLinesOf-more (IsGraphLine graph) graph_request_of items i c.request-item.result old grown answer within c.request-item.is c.loop-request.invariant is written in
     elim c.if-cyclic.branch [
       | then-cyclic+in_ok-push_str w ↦
           more (string_bytes c.if-cyclic.output) (line_text (codes "cycle") []) (inl ((rw w.if-cyclic.true at c.in_ok-cyclic.ensures), refl)) (ap string_bytes w.output-is ∙ w.in_ok-push_str.ensures.bytes)
-      | else-cyclic+in_ok-push_answer w ↦
-          let (answer, is, written) = w.in_ok-push_answer.ensures in
+      | else-cyclic+in_ok-push_result w ↦
+          let (answer, is, written) = w.in_ok-push_result.ensures in
           more (string_bytes c.if-cyclic.output) answer (inr ((rw w.if-cyclic.false at c.in_ok-cyclic.ensures), is)) (ap string_bytes w.output-is ∙ written)
     ]
 
-pub push_answer-requires-clause-named : goal.push_answer-requires-clause-named
-push_answer-requires-clause-named c =
-    let asked = c.in_ok-asked_ids.field-0.items in
+pub push_result-requires-clause-named : goal.push_result-requires-clause-named
+push_result-requires-clause-named c =
+    let requested = c.in_ok-requested_ids.field-0.items in
     let ids = named_by c.in_ok-graph.graph in
     let request = c.request-item.result in
     let requests = c.deref-request-items.result.now in
     let same : c.deref.result.now ≡ requests = c.deref.ensures.value ∙ sym c.deref-request-items.ensures.value in
     let here : Contains requests request = (c.loop-request.request-index, omega arith, sym c.request-item.is) in
-    let held : All (Contains asked) (ids_of (graph_request_of request)) =
-    All-contains (λ other. All (Contains asked) (ids_of (graph_request_of other))) requests request (subst (All (λ other. All (Contains asked) (ids_of (graph_request_of other)))) same c.in_ok-asked_ids.ensures) here in
-    All-weaker (Contains asked) (Contains ids) (λ id among. All-contains (Contains ids) asked id c.in_ok-graph.ensures.asked among) (ids_of (graph_request_of request)) held
+    let held : All (Contains requested) (ids_of (graph_request_of request)) =
+    All-contains (λ other. All (Contains requested) (ids_of (graph_request_of other))) requests request (subst (All (λ other. All (Contains requested) (ids_of (graph_request_of other)))) same c.in_ok-requested_ids.ensures) here in
+    All-weaker (Contains requested) (Contains ids) (λ id among. All-contains (Contains ids) requested id c.in_ok-graph.ensures.requested among) (ids_of (graph_request_of request)) held
 
 pub returns-clause-done : goal.returns-clause-done
 returns-clause-done c =
@@ -50,11 +50,11 @@ returns-clause-done c =
     let items = c.deref-request-items.result.now in
     let whole : take c.loop-request.request-index items ≡ reading.requests.items = take_all c.loop-request.request-index items (omega arith) ∙ c.deref-request-items.ensures.value in
     let shown : shown_by c.in_ok-graph.graph ≡ graph_of state.listed = c.in_ok-graph.ensures.graph in
-    let so_far : AnswersEach (IsGraphAnswer (shown_by c.in_ok-graph.graph)) (map graph_request_of (take c.loop-request.request-index items)) (string_bytes c.loop-request.output) = c.loop-request.invariant in
-    let answered : AnswersEach (IsGraphAnswer (graph_of state.listed)) state.requests (string_bytes c.loop-request.output) =
-    subst (λ requests. AnswersEach (IsGraphAnswer (graph_of state.listed)) (map graph_request_of requests) (string_bytes c.loop-request.output)) whole
-    (subst (λ graph. AnswersEach (IsGraphAnswer graph) (map graph_request_of (take c.loop-request.request-index items)) (string_bytes c.loop-request.output)) shown so_far) in
-    (state, read, subst (AnswersEach (IsGraphAnswer (graph_of state.listed)) state.requests) (sym (ap (λ v. v.items) c.into_bytes.ensures.value)) answered)
+    let so_far : AreLinesOf (IsGraphLine (shown_by c.in_ok-graph.graph)) (map graph_request_of (take c.loop-request.request-index items)) (string_bytes c.loop-request.output) = c.loop-request.invariant in
+    let answered : AreLinesOf (IsGraphLine (graph_of state.listed)) state.requests (string_bytes c.loop-request.output) =
+    subst (λ requests. AreLinesOf (IsGraphLine (graph_of state.listed)) (map graph_request_of requests) (string_bytes c.loop-request.output)) whole
+    (subst (λ graph. AreLinesOf (IsGraphLine graph) (map graph_request_of (take c.loop-request.request-index items)) (string_bytes c.loop-request.output)) shown so_far) in
+    (state, read, subst (AreLinesOf (IsGraphLine (graph_of state.listed)) state.requests) (sym (ap (λ v. v.items) c.into_bytes.ensures.value)) answered)
 
 pub returns-then-is_empty-clause-done : goal.returns-then-is_empty-clause-done
 returns-then-is_empty-clause-done c =
@@ -65,4 +65,4 @@ returns-then-is_empty-clause-done c =
     let read = ap (λ s. after_lines graph_step 1 s (lines_of c.args.text.now)) (sym start) ∙ c.in_ok-take_lines.ensures in
     let zero : reading.requests.len ≡ 0 = eqb-true _ _ (sym c.is_empty.ensures ∙ c.if-is_empty.true) in
     let none : reading.requests.items ≡ [] = nil_from_length reading.requests.items (omega (arith, zero)) in
-    (state, read, subst (λ requests. AnswersEach (IsGraphAnswer (graph_of state.listed)) (map graph_request_of requests) c.new-then-is_empty.result.items) (sym none) c.new-then-is_empty.ensures.items)
+    (state, read, subst (λ requests. AreLinesOf (IsGraphLine (graph_of state.listed)) (map graph_request_of requests) c.new-then-is_empty.result.items) (sym none) c.new-then-is_empty.ensures.items)

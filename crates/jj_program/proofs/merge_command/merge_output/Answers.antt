@@ -13,16 +13,16 @@ loop-output-init c = (([], refl, c.new-output.ensures.items), omega arith, c.utf
 pub range-requires-clause-end_boundary : goal.range-requires-clause-end_boundary
 range-requires-clause-end_boundary c = line_boundary c.loop-output.rest.now c.in_ok-end.end c.in_ok-end.ensures.length
 
-pub returns-in_err-answer_line-clause-fault : goal.returns-in_err-answer_line-clause-fault
-returns-in_err-answer_line-clause-fault c =
+pub returns-in_err-perform_line-clause-fault : goal.returns-in_err-perform_line-clause-fault
+returns-in_err-perform_line-clause-fault c =
     let text = c.loop-output.rest.now in
     let end = c.in_ok-end.end in
     let (requests, so_far, each) = c.loop-output.invariant.0 in
     let (more, first) = line_start text end c.in_ok-end.ensures.length in
     let line : c.range.result.now ≡ take end text = c.range.ensures.value ∙ line_end text end in
-    let found = subst (λ l. IsFaultOf c.in_err-answer_line.field-0.0 (after_line merge_step c.loop-output.line_number requests l)) line (c.in_err-answer_line.ensures requests) in
-    let p = err_from_is_err_and c.from_residual-in_err-answer_line.result c.from_residual-in_err-answer_line.ensures.1 in
-    rw (p.1, p.2) (line_fault merge_step c.in_err-answer_line.field-0.0 c.loop-output.line_number requests text (take end text) more _ first so_far found)
+    let found = subst (λ l. IsFaultOf c.in_err-perform_line.field-0.0 (after_line merge_step c.loop-output.line_number requests l)) line (c.in_err-perform_line.ensures requests) in
+    let p = err_from_is_err_and c.from_residual-in_err-perform_line.result c.from_residual-in_err-perform_line.ensures.1 in
+    rw (p.1, p.2) (line_fault merge_step c.in_err-perform_line.field-0.0 c.loop-output.line_number requests text (take end text) more _ first so_far found)
 
 pub returns-then-end-rest-clause-done : goal.returns-then-end-rest-clause-done
 returns-then-end-rest-clause-done c =
@@ -31,7 +31,7 @@ returns-then-end-rest-clause-done c =
     let (requests, so_far, each) = c.loop-output.invariant.0 in
     let all : end ≡ length text = search rules in
     let line : c.range.result.now ≡ text = c.range.ensures.value ∙ line_end text end ∙ take_all end text (omega (arith, all)) in
-    let (next, taken, answered) = c.in_ok-answer_line.ensures requests each in
+    let (next, taken, answered) = c.in_ok-perform_line.ensures requests each in
     let last = last_line merge_step c.loop-output.line_number requests text _ (line_last text end c.in_ok-end.ensures.length all) so_far in
     (next, sym last ∙ ap (after_line merge_step c.loop-output.line_number requests) (sym line) ∙ taken, answered)
 
@@ -59,7 +59,7 @@ loop-output-preserved c =
     let cut = line_cut text end c.in_ok-end.ensures.length (omega (arith, long)) in
     let line : c.range.result.now ≡ take end text = c.range.ensures.value ∙ line_end text end in
     let behind : c.range_from-rest.result.now ≡ drop (end + 1) text = c.range_from-rest.ensures.value in
-    let (next, answered, lines) = c.in_ok-answer_line.ensures requests each in
+    let (next, answered, lines) = c.in_ok-perform_line.ensures requests each in
     let taken = ap (after_line merge_step c.loop-output.line_number requests) (sym line) ∙ answered in
     let further = next_line merge_step c.loop-output.line_number requests next text (take end text) (drop (end + 1) text) _ cut so_far taken in
     ((next, ap (λ l. after_lines merge_step (c.loop-output.line_number + 1) next (lines_of l)) behind ∙ further, lines), omega (arith, long, c.loop-output.invariant.1), search rules)

@@ -2,14 +2,14 @@
 use Rattle.std.proofs.Common.{◌≡◌, ◌+◌, ◌≤◌, List, length}
 use denote.Shadow.{shadow}
 use denote.Text.{Utf8}
-use Rattle.jj_program.specs.Lines.{AnswersEach, lines_of, after_lines}
-use Rattle.jj_program.specs.MergeCommand.{IsMergeAnswer, MergeRequest, merge_requests, merge_step}
+use Rattle.jj_program.specs.Lines.{AreLinesOf, lines_of, after_lines}
+use Rattle.jj_program.specs.MergeCommand.{IsMergeLine, MergeRequest, merge_requests, merge_step}
 use Rattle.jj_program.proofs.merge_command.merge_output.Given as goal
 
 abbrev pub invariant-loop-output : goal.invariant-loop-output
 invariant-loop-output l =
     ((requests : List MergeRequest) × (after_lines merge_step l.line_number requests (lines_of l.rest) ≡ merge_requests l.fn.text)
-    × AnswersEach IsMergeAnswer requests l.output.items)
+    × AreLinesOf IsMergeLine requests l.output.items)
     × (l.line_number + length l.rest ≤ 1 + length l.fn.text)
     × shadow (Utf8 l.rest)
 

@@ -5,11 +5,11 @@ use Rattle.std.specs.declared.alloc.AllocError.{AllocError}
 use Rattle.std.proofs.lemmas.Result.{IfOk-weaker}
 use Rattle.jj_merges.specs.Simplify.{at_indices, simplified_indices}
 use Rattle.jj_program.specs.Lines.{Text, line_text, texts_of}
-use Rattle.jj_program.specs.MergeCommand.{IsMergeAnswer}
+use Rattle.jj_program.specs.MergeCommand.{IsMergeLine}
 use Rattle.jj_program.specs.MergeViews.{text_eq}
-use Rattle.jj_program.specs.declared.merge_command.Question.TheVariants.{Simplify}
+use Rattle.jj_program.specs.declared.merge_command.MergeForm.TheVariants.{Simplify}
 use Rattle.jj_program.proofs.ShortMerges.{all_left, first_left, last_left, one_left, simplified}
-use Rattle.jj_program.proofs.TextMerges.{answers_simplify}
+use Rattle.jj_program.proofs.TextMerges.{line_of_simplify}
 use Rattle.jj_program.proofs.merge_command.push_simplified.Goals as goal
 
 -- the default value out of range
@@ -19,10 +19,10 @@ no_text = record { ref_ptr = (0, 0); now = [] }
 -- the line with the terms that are left
 line_of : (result : Result (Unit {0}) AllocError) (m left : List Text) (old new : List ℕ) → texts_of left ≡ simplified (texts_of m)
     → OnOk result (new ≡ old ++ line_text (codes "terms") (texts_of left))
-    → OnOk result ((answer : List ℕ) × IsMergeAnswer (Simplify, texts_of m) answer × (new ≡ old ++ answer))
+    → OnOk result ((answer : List ℕ) × IsMergeLine (Simplify, texts_of m) answer × (new ≡ old ++ answer))
 line_of result m left old new is pushed =
     IfOk-weaker result (λ _. new ≡ old ++ line_text (codes "terms") (texts_of left))
-    (λ _. (answer : List ℕ) × IsMergeAnswer (Simplify, texts_of m) answer × (new ≡ old ++ answer))
+    (λ _. (answer : List ℕ) × IsMergeLine (Simplify, texts_of m) answer × (new ≡ old ++ answer))
     (λ done written. (line_text (codes "terms") (texts_of left), ap (line_text (codes "terms")) is, written)) pushed
 
 pub returns-in-len1 : goal.returns-in-len1
@@ -54,8 +54,8 @@ returns-in_ok-left-in_default c =
     let terms = c.args.terms.now in
     let old = c.args.output.now.items in
     let left = c.in_ok-left-in_default.left in
-    let answered = answers_simplify Simplify terms left refl
+    let answered = line_of_simplify Simplify terms left refl
     (subst (λ m. AllZip (λ x y. y ≡ x) (at_indices m (simplified_indices text_eq m)) left) c.in_ok-merge_of-in_default.ensures c.in_ok-left-in_default.ensures.terms) in
     IfOk-weaker c.push_line-in_default.result (λ _. c.push_line-in_default.new.output.items ≡ old ++ line_text (codes "terms") (texts_of c.as_slice.result.now))
-    (λ _. (answer : List ℕ) × IsMergeAnswer (Simplify, texts_of terms) answer × (c.push_line-in_default.new.output.items ≡ old ++ answer))
+    (λ _. (answer : List ℕ) × IsMergeLine (Simplify, texts_of terms) answer × (c.push_line-in_default.new.output.items ≡ old ++ answer))
     (λ done written. (line_text (codes "terms") (texts_of left), answered, written ∙ ap (λ terms. old ++ line_text (codes "terms") (texts_of terms)) c.as_slice.ensures.terms)) c.push_line-in_default.ensures

@@ -13,9 +13,9 @@ use Rattle.jj_dag.specs.CommonNodes.{AreClosestCommon}
 use Rattle.jj_dag.specs.Graph.{Graph, IsGreatestTopologicalOrder, AreMaximalElements}
 use Rattle.jj_dag.proofs.Walking.{has, Decides-has}
 use Rattle.jj_program.specs.declared.fault.Fault.{Fault}
-use Rattle.jj_program.specs.Lines.{AnswersEach}
-use Rattle.jj_program.specs.GraphCommand.{GraphRequest, Order, Heads, Common, numbers_line, AnswersRequest, IsGraphAnswer, GivesGraph, graph_of}
-use Rattle.jj_program.proofs.Requests.{AnswersEach-once}
+use Rattle.jj_program.specs.Lines.{AreLinesOf}
+use Rattle.jj_program.specs.GraphCommand.{GraphRequest, Order, Heads, Common, numbers_line, IsLineOfRequest, IsGraphLine, IsGraphResult, graph_of}
+use Rattle.jj_program.proofs.Requests.{AreLinesOf-once}
 
 -- the two lists have no first difference
 abbrev DifferNowhere : List ℕ → List ℕ → Type 0
@@ -96,22 +96,22 @@ closest_once : (graph : Graph) (set1 set2 one other : List ℕ) → AreClosestCo
 closest_once graph set1 set2 one other of_one of_other up up' =
     ascending_once one other up up' of_one.once of_other.once (λ a. ((λ h. (of_other.all a).1 ((of_one.all a).0 h)), λ h. (of_one.all a).1 ((of_other.all a).0 h)))
 
-request_once : (graph : Graph) (request : GraphRequest) (a b : List ℕ) → AnswersRequest graph request a → AnswersRequest graph request b → a ≡ b
+request_once : (graph : Graph) (request : GraphRequest) (a b : List ℕ) → IsLineOfRequest graph request a → IsLineOfRequest graph request b → a ≡ b
 request_once graph (Order ids) a b (one, of_one, e) (other, of_other, e') = e ∙ ap (λ l. numbers_line (codes "order") l) (greatest_once graph ids one other of_one of_other) ∙ sym e'
 request_once graph (Heads ids) a b (one, of_one, up, e) (other, of_other, up', e') = e ∙ ap (λ l. numbers_line (codes "heads") l) (heads_once graph ids one other of_one of_other up up') ∙ sym e'
 request_once graph (Common set1 set2) a b (one, of_one, up, e) (other, of_other, up', e') = e ∙ ap (λ l. numbers_line (codes "common") l) (closest_once graph set1 set2 one other of_one of_other up up') ∙ sym e'
 
-graph_answer_once : (graph : Graph) (request : GraphRequest) (a b : List ℕ) → IsGraphAnswer graph request a → IsGraphAnswer graph request b → a ≡ b
-graph_answer_once graph request a b (inl (cycle, e)) (inl (cycle', e')) = e ∙ sym e'
-graph_answer_once graph request a b (inl (cycle, e)) (inr (none, is)) = absurd (none cycle)
-graph_answer_once graph request a b (inr (none, is)) (inl (cycle, e)) = absurd (none cycle)
-graph_answer_once graph request a b (inr (none, is)) (inr (none', is')) = request_once graph request a b is is'
+graph_line_once : (graph : Graph) (request : GraphRequest) (a b : List ℕ) → IsGraphLine graph request a → IsGraphLine graph request b → a ≡ b
+graph_line_once graph request a b (inl (cycle, e)) (inl (cycle', e')) = e ∙ sym e'
+graph_line_once graph request a b (inl (cycle, e)) (inr (none, is)) = absurd (none cycle)
+graph_line_once graph request a b (inr (none, is)) (inl (cycle, e)) = absurd (none cycle)
+graph_line_once graph request a b (inr (none, is)) (inr (none', is')) = request_once graph request a b is is'
 
-pub graph_gives_one : (text : List ℕ) (first second : Result (List ℕ) Fault) → GivesGraph text first → GivesGraph text second → first ≡ second
-graph_gives_one text (Ok one) (Ok other) (state, read, answered) (state', read', answered') =
+pub graph_result_unique : (text : List ℕ) (first second : Result (List ℕ) Fault) → IsGraphResult text first → IsGraphResult text second → first ≡ second
+graph_result_unique text (Ok one) (Ok other) (state, read, answered) (state', read', answered') =
     let twice : Ok state ≡ Ok state' = sym read ∙ read' in
     let same : state ≡ state' = cc in
-    ap Ok (AnswersEach-once (IsGraphAnswer (graph_of state.listed)) (graph_answer_once (graph_of state.listed)) state.requests one other answered (subst (λ s. AnswersEach (IsGraphAnswer (graph_of s.listed)) s.requests other) (sym same) answered'))
-graph_gives_one text (Ok one) (Err fault) (state, read, answered) read' = let both : Ok state ≡ Err fault = sym read ∙ read' in cc
-graph_gives_one text (Err fault) (Ok one) read (state, read', answered) = let both : Err fault ≡ Ok state = sym read ∙ read' in cc
-graph_gives_one text (Err fault) (Err other) read read' = let both : Err fault ≡ Err other = sym read ∙ read' in let same : fault ≡ other = cc in ap Err same
+    ap Ok (AreLinesOf-once (IsGraphLine (graph_of state.listed)) (graph_line_once (graph_of state.listed)) state.requests one other answered (subst (λ s. AreLinesOf (IsGraphLine (graph_of s.listed)) s.requests other) (sym same) answered'))
+graph_result_unique text (Ok one) (Err fault) (state, read, answered) read' = let both : Ok state ≡ Err fault = sym read ∙ read' in cc
+graph_result_unique text (Err fault) (Ok one) read (state, read', answered) = let both : Err fault ≡ Ok state = sym read ∙ read' in cc
+graph_result_unique text (Err fault) (Err other) read read' = let both : Err fault ≡ Err other = sym read ∙ read' in let same : fault ≡ other = cc in ap Err same

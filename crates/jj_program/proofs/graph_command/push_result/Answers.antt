@@ -5,10 +5,10 @@ use Rattle.std.proofs.lemmas.Result.{IfOk-weaker}
 use Rattle.jj_dag.specs.CommonNodes.{AreClosestCommon}
 use Rattle.jj_dag.specs.Graph.{Graph, IsGreatestTopologicalOrder, AreMaximalElements}
 use Rattle.jj_program.specs.ListedGraphs.{named_by, shown_by}
-use Rattle.jj_program.specs.GraphCommand.{GraphRequest, Order, Heads, Common, AnswersRequest, numbers_line}
+use Rattle.jj_program.specs.GraphCommand.{GraphRequest, Order, Heads, Common, IsLineOfRequest, numbers_line}
 use Rattle.jj_program.specs.GraphViews.{ids_of, graph_request_of}
-use Rattle.jj_program.proofs.AskedIds.{back_held, front_held}
-use Rattle.jj_program.proofs.graph_command.push_answer.Goals as goal
+use Rattle.jj_program.proofs.RequestedIds.{back_held, front_held}
+use Rattle.jj_program.proofs.graph_command.push_result.Goals as goal
 
 pub greatest_order-requires-clause-named : goal.greatest_order-requires-clause-named
 greatest_order-requires-clause-named c =
@@ -34,11 +34,11 @@ ascending_common-requires-clause-named_second c =
 
 -- the line of the request was appended
 answered : {X E : Type 0} (result : Result X E) (graph : Graph) (request known : GraphRequest) (name numbers given old new : List ℕ) → request ≡ known → given ≡ numbers
-    → AnswersRequest graph known (numbers_line name numbers) → IfOk result (λ _. new ≡ old ++ numbers_line name given)
-    → IfOk result (λ _. (answer : List ℕ) × AnswersRequest graph request answer × (new ≡ old ++ answer))
+    → IsLineOfRequest graph known (numbers_line name numbers) → IfOk result (λ _. new ≡ old ++ numbers_line name given)
+    → IfOk result (λ _. (answer : List ℕ) × IsLineOfRequest graph request answer × (new ≡ old ++ answer))
 answered result graph request known name numbers given old new is same answers =
-    IfOk-weaker result (λ _. new ≡ old ++ numbers_line name given) (λ _. (answer : List ℕ) × AnswersRequest graph request answer × (new ≡ old ++ answer))
-    (λ done written. (numbers_line name numbers, subst (λ r. AnswersRequest graph r (numbers_line name numbers)) (sym is) answers, written ∙ ap (λ l. old ++ numbers_line name l) same))
+    IfOk-weaker result (λ _. new ≡ old ++ numbers_line name given) (λ _. (answer : List ℕ) × IsLineOfRequest graph request answer × (new ≡ old ++ answer))
+    (λ done written. (numbers_line name numbers, subst (λ r. IsLineOfRequest graph r (numbers_line name numbers)) (sym is) answers, written ∙ ap (λ l. old ++ numbers_line name l) same))
 
 pub returns-in_ok-order-in-Order : goal.returns-in_ok-order-in-Order
 returns-in_ok-order-in-Order c =

@@ -5,8 +5,8 @@ use Rattle.std.specs.List.{Contains}
 use Rattle.std.proofs.lemmas.List.Elements.{All-contains, All-weaker, Contains-append_left, Contains-append_right, Contains-get_or}
 
 -- membership is preserved when ids are appended
-pub still_held : (old added new asked : List ℕ) → new ≡ old ++ added → All (Contains old) asked → All (Contains new) asked
-still_held old added new asked grown held = All-weaker (Contains old) (Contains new) (λ id among. subst (λ ids. Contains ids id) (sym grown) (Contains-append_left old added id among)) asked held
+pub still_held : (old added new requested : List ℕ) → new ≡ old ++ added → All (Contains old) requested → All (Contains new) requested
+still_held old added new requested grown held = All-weaker (Contains old) (Contains new) (λ id among. subst (λ ids. Contains ids id) (sym grown) (Contains-append_left old added id among)) requested held
 
 -- appended ids are members
 pub added_held : (old added new : List ℕ) → new ≡ old ++ added → All (Contains new) added

@@ -1,6 +1,6 @@
 use Rattle.std.proofs.Common.{◌-◌, ◌≤◌, length}
 use Rattle.jj_program.proofs.CountDecisions.{IsDecidedTo}
-use Rattle.jj_program.proofs.merge_counts.decided_counts.Given as goal
+use Rattle.jj_program.proofs.merge_counts.outcome_of_counts.Given as goal
 
 abbrev pub invariant-loop-index : goal.invariant-loop-index
 invariant-loop-index l = record {

@@ -3,8 +3,8 @@ use Rattle.jj_merges.proofs.ResolutionScan.{is_keep, is_not_keep}
 use Rattle.jj_program.specs.Lines.{Text}
 use Rattle.jj_program.proofs.SortedSides.{both_more, left_more, none_or, sides_swap}
 use Rattle.jj_program.proofs.SideDecisions.{conflict_added, conflict_kept, conflict_removed, decided_at_end}
-use Rattle.jj_program.proofs.merge_outcome.decided_sides.Goals as goal
-use Rattle.jj_program.proofs.merge_outcome.decided_sides.Goals.{then-eq-via-then-eq, then-eq-via-else-eq+then-is_other-2}
+use Rattle.jj_program.proofs.merge_outcome.outcome_of_sides.Goals as goal
+use Rattle.jj_program.proofs.merge_outcome.outcome_of_sides.Goals.{then-eq-via-then-eq, then-eq-via-else-eq+then-is_other-2}
 
 -- the default value out of range
 abbrev no_text : Text

@@ -1,7 +1,7 @@
 use Rattle.std.proofs.Common.{◌≡◌, ◌+◌, ◌-◌, ◌≤◌, ℕ, None, length}
 use Rattle.jj_merges.specs.declared.merge.SameChange.TheVariants.{Keep}
 use Rattle.jj_program.proofs.SortedSides.{SidesAt}
-use Rattle.jj_program.proofs.merge_outcome.decided_sides.Given as goal
+use Rattle.jj_program.proofs.merge_outcome.outcome_of_sides.Given as goal
 
 abbrev pub invariant-loop-i : goal.invariant-loop-i
 invariant-loop-i l = record {

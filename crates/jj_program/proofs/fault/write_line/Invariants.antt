@@ -1,8 +1,8 @@
 -- The parts so far are written, and the sink has not failed.
 use Rattle.std.proofs.Common.{◌≡◌, take, false}
 use Rattle.std.specs.Io.KnownBytes.{Appends}
-use Rattle.jj_program.proofs.Said.{said}
-use Rattle.jj_program.proofs.fault.say.Given as goal
+use Rattle.jj_program.proofs.WrittenLines.{said}
+use Rattle.jj_program.proofs.fault.write_line.Given as goal
 
 abbrev pub invariant-loop-index : goal.invariant-loop-index
 invariant-loop-index g l = record {

@@ -1,8 +1,8 @@
 use Rattle.std.proofs.Common.{◌≡◌, ◌∙◌, ◌||◌, [], true, false, sym, ap, subst, append-nil}
 use Rattle.std.proofs.lemmas.List.{take_all}
 use Rattle.std.specs.Io.KnownBytes.{Appends}
-use Rattle.jj_program.proofs.Said.{said, said_next, said_front, ok_given}
-use Rattle.jj_program.proofs.fault.say.Goals as goal
+use Rattle.jj_program.proofs.WrittenLines.{said, said_next, said_front, ok_given}
+use Rattle.jj_program.proofs.fault.write_line.Goals as goal
 
 pub loop-index-preserved : goal.loop-index-preserved
 loop-index-preserved g c = record {

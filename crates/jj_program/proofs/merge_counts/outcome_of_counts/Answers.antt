@@ -1,8 +1,8 @@
 use Rattle.std.proofs.Common.{◌∙◌, arith, sym}
 use Rattle.jj_merges.proofs.ResolutionScan.{is_keep, is_not_keep}
 use Rattle.jj_program.proofs.CountDecisions.{balanced, conflict_added, conflict_kept, conflict_removed, conflict_repeated, decided_at_end, first_added, first_removed, start}
-use Rattle.jj_program.proofs.merge_counts.decided_counts.Goals as goal
-use Rattle.jj_program.proofs.merge_counts.decided_counts.Goals.{then-count+else-is_some+else-is_repeated, else-count+then-count-2+else-eq+else-is_some-2, else-count+else-count-2}
+use Rattle.jj_program.proofs.merge_counts.outcome_of_counts.Goals as goal
+use Rattle.jj_program.proofs.merge_counts.outcome_of_counts.Goals.{then-count+else-is_some+else-is_repeated, else-count+then-count-2+else-eq+else-is_some-2, else-count+else-count-2}
 
 pub loop-index-init : goal.loop-index-init
 loop-index-init c = record {
