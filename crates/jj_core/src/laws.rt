@@ -9,8 +9,8 @@ pub use jj_matchers::laws::{acceptance_laws, walks_find_accepted_marks};
 pub use jj_merges::laws::{simplified_indices_laws, three_way_laws};
 pub use jj_paths::laws::{ancestor_laws, last_name_laws, node_list_laws, path_string_laws};
 pub use jj_program::laws::{
-    commands_give_one_answer, commands_have_these_lines, faults_are_of_first_kinds,
-    faults_are_of_first_lines, walks_find_their_files,
+    commands_have_these_lines, faults_are_of_first_kinds, faults_are_of_first_lines,
+    results_are_unique, walks_find_their_files,
 };
 pub use jj_trees::laws::merged_path_laws;
 pub use jj_walks::laws::{
