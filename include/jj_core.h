@@ -112,7 +112,7 @@ int64_t jj_glob_matches(const uint8_t *glob, size_t glob_len, bool separator, bo
 
 /* Paths of a repository: components joined by `/`. The empty string is the root. */
 
-/* Parses the expression of a file set once, such as `src ~ **/*.md`, and writes for each path whether it is in the set. Operands are paths
+/* Parses the expression of a file set once, such as `src ~ tests`, and writes for each path whether it is in the set. Operands are paths
  * (with all below them), globs, `file:PATH`, `glob:GLOB`, `all()` and `none()`; operators are `|`, `&`, `~` and parentheses. Returns the number
  * of paths. O(bytes * length of the expression). Errors: JJ_ENDS, JJ_LENGTH, JJ_EXPRESSION, JJ_PATH, JJ_MEMORY. Allocates. */
 int64_t jj_fileset_matches(const uint8_t *expression, size_t expression_len, const uint8_t *bytes, size_t bytes_len, const size_t *ends, size_t ends_len, bool *matches, size_t matches_len);
