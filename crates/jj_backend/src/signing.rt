@@ -20,7 +20,7 @@ pub enum SignError {
 impl From<AllocError> for SignError {
     ghost from_gives = { λ _ error. error ≡ SignError.Memory };
 
-    fn from(_refused: AllocError) -> Self {
+    fn from(_error: AllocError) -> Self {
         SignError::Memory
     }
 }
@@ -28,7 +28,7 @@ impl From<AllocError> for SignError {
 impl<T: Drop> From<AllocFailed<T>> for SignError {
     ghost from_gives = { λ _ error. error ≡ SignError.Memory };
 
-    fn from(_refused: AllocFailed<T>) -> Self {
+    fn from(_error: AllocFailed<T>) -> Self {
         SignError::Memory
     }
 }

@@ -6,7 +6,7 @@ use Rattle.jj_filesets.specs.declared.fileset.error.FilesetParseErrorKind.{Files
 use Rattle.jj_filesets.specs.declared.fileset.program.Step.{Step}
 use Rattle.jj_filesets.specs.declared.fileset.token.Lexeme.{Lexeme}
 use Rattle.jj_filesets.specs.SyntaxTrees.{SyntaxTree}
-use Rattle.jj_filesets.specs.Strings.{Gives}
+use Rattle.jj_filesets.specs.Strings.{IsResultOf}
 use Rattle.jj_filesets.specs.Tokens.{Tokenizes, IsTokenError}
 use Rattle.jj_filesets.specs.Grammar.{Derives, expression}
 use Rattle.jj_filesets.specs.Programs.{postfix, tree_of, IsProgram}
@@ -38,7 +38,7 @@ order_error len lexemes at other kind found is order =
 
 -- the program of the tokens, or the error of parsing them
 pub compiled : {V : Type 0} (text : List ℕ) (lexemes : List Lexeme) (result : Result V FilesetParseError) (view : V → List Step) → Tokenizes (length text) text lexemes
-    → Gives view result (parsed_after (length text) (Ok (before [] [])) lexemes) → IsCompiled view text result
+    → IsResultOf view result (parsed_after (length text) (Ok (before [] [])) lexemes) → IsCompiled view text result
 compiled text lexemes (Ok program) view t g =
     let (set, d, is) = parsed (length text) lexemes (view program) g in
     record { spelled = (set, (lexemes, t, d), is); unspelled = tt; cause = tt }

@@ -7,7 +7,7 @@ use Rattle.jj_filesets.specs.declared.fileset.error.FilesetParseError.TheVariant
 use Rattle.jj_filesets.specs.declared.fileset.error.FilesetParseErrorKind.TheVariants.{NotUtf8}
 use Rattle.jj_filesets.specs.declared.fileset.operand.PatternKind.{PatternKind}
 use Rattle.jj_filesets.specs.declared.fileset.pattern.FilePattern.{FilePattern}
-use Rattle.jj_filesets.specs.Strings.{Gives, Fails}
+use Rattle.jj_filesets.specs.Strings.{IsResultOf, Fails}
 use Rattle.jj_filesets.specs.Operands.{pattern_of, text_pattern}
 
 not_true : (b : Bool) → (b ≡ true → ⊥) → b ≡ false
@@ -19,9 +19,9 @@ unfolding pattern_of
 is_text kind at string h = rw h refl
 
 pub text_gives : (kind : PatternKind) (at : ℕ) (string text : List ℕ) (result : Result FilePattern FilesetParseError) → text ≡ string → IsUtf8 string
-    → Gives (λ pattern. pattern) result (text_pattern kind at text) → Gives (λ pattern. pattern) result (pattern_of kind at string)
+    → IsResultOf (λ pattern. pattern) result (text_pattern kind at text) → IsResultOf (λ pattern. pattern) result (pattern_of kind at string)
 text_gives kind at string text result is utf8 g =
-    subst (Gives (λ pattern. pattern) result) (ap (text_pattern kind at) is ∙ sym (is_text kind at string (is_utf8-from_IsUtf8 string utf8))) g
+    subst (IsResultOf (λ pattern. pattern) result) (ap (text_pattern kind at) is ∙ sym (is_text kind at string (is_utf8-from_IsUtf8 string utf8))) g
 
 pub no_text : (kind : PatternKind) (at : ℕ) (string : List ℕ) → (¬ IsUtf8 string) → pattern_of kind at string ≡ Err (Syntax at NotUtf8)
 unfolding pattern_of

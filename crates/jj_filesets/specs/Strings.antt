@@ -18,10 +18,10 @@ Fails Memory read = Unit {0}
 Fails (Syntax at kind) read = read ≡ Err (Syntax at kind)
 
 -- the result is the specified one, unless memory ran out
-abbrev pub Gives : {X Y : Type 0} → (X → Y) → Result X FilesetParseError
+abbrev pub IsResultOf : {X Y : Type 0} → (X → Y) → Result X FilesetParseError
     → Result Y FilesetParseError → Type 0
-Gives view (Ok x) read = read ≡ Ok (view x)
-Gives view (Err error) read = Fails error read
+IsResultOf view (Ok x) read = read ≡ Ok (view x)
+IsResultOf view (Err error) read = Fails error read
 
 -- 2. Words.
 

@@ -158,26 +158,26 @@ accepts_text true g name rest = DecidesAll-is_prefix_match g (path_string (name 
 
 module _ (set : Patterns) where
   -- the pattern accepts the path
-  abbrev Says : Path → Path × GlobSpec → Type 0
-  Says path pattern = (name : Name) × (rest : Path) × (path ≡ pattern.0 ++ name ∷ rest) × MatchesString set.prefix_paths pattern.1 (path_string (name ∷ rest))
+  abbrev IsAcceptedBy : Path → Path × GlobSpec → Type 0
+  IsAcceptedBy path pattern = (name : Name) × (rest : Path) × (path ≡ pattern.0 ++ name ∷ rest) × MatchesString set.prefix_paths pattern.1 (path_string (name ∷ rest))
 
   abbrev test_of : Path → Path × GlobSpec → Bool
   test_of path pattern = tail_passes pattern.0 (accepts_tail set.prefix_paths pattern.1) path
 
-  says : (path : Path) (pattern : Path × GlobSpec) → test_of path pattern ≡ true → Says path pattern
-  says path pattern h = let p = passed (accepts_tail set.prefix_paths pattern.1) pattern.0 path h in by_tail p.tail p.is p.passes
+  accepted_by : (path : Path) (pattern : Path × GlobSpec) → test_of path pattern ≡ true → IsAcceptedBy path pattern
+  accepted_by path pattern h = let p = passed (accepts_tail set.prefix_paths pattern.1) pattern.0 path h in by_tail p.tail p.is p.passes
     where
-      by_tail : (tail : Path) → path ≡ pattern.0 ++ tail → accepts_tail set.prefix_paths pattern.1 tail ≡ true → Says path pattern
+      by_tail : (tail : Path) → path ≡ pattern.0 ++ tail → accepts_tail set.prefix_paths pattern.1 tail ≡ true → IsAcceptedBy path pattern
       by_tail [] is e = absurd (false≢true e)
       by_tail (name ∷ rest) is e = (name, rest, is, (accepts_text set.prefix_paths pattern.1 name rest).0 e)
 
-  said : (path : Path) (pattern : Path × GlobSpec) → Says path pattern → test_of path pattern ≡ true
-  said path pattern s = passes (accepts_tail set.prefix_paths pattern.1) pattern.0 path (record { tail = s.0 ∷ s.1; is = s.2; passes = (accepts_text set.prefix_paths pattern.1 s.0 s.1).1 s.3 })
+  passes_if_accepted : (path : Path) (pattern : Path × GlobSpec) → IsAcceptedBy path pattern → test_of path pattern ≡ true
+  passes_if_accepted path pattern s = passes (accepts_tail set.prefix_paths pattern.1) pattern.0 path (record { tail = s.0 ∷ s.1; is = s.2; passes = (accepts_text set.prefix_paths pattern.1 s.0 s.1).1 s.3 })
 
   pub Decides-is_accepted : (path : Path) → Decides (is_accepted set path) (IsAccepted set path)
   Decides-is_accepted path = (
-    (λ h. let found = Any-from_list_any (test_of path) set.patterns h in (found.0, found.1, found.2, found.3, says path found.1 found.4)),
-    (λ found. list_any-from_Any (test_of path) set.patterns (found.0, found.1, found.2, found.3, said path found.1 found.4)),
+    (λ h. let found = Any-from_list_any (test_of path) set.patterns h in (found.0, found.1, found.2, found.3, accepted_by path found.1 found.4)),
+    (λ found. list_any-from_Any (test_of path) set.patterns (found.0, found.1, found.2, found.3, passes_if_accepted path found.1 found.4)),
   )
 
   -- soundness in terms of `IsAccepted` follows from soundness

@@ -25,9 +25,9 @@ is_disallowed component = is_special_component component || not (is_utf8 compone
 -- the error contains the path and its first component that is not allowed, with the reason, or is
 -- out of memory
 abbrev pub IsParseError : List ℕ → Option (List ℕ) → RelativePathParseError → Type 0
-IsParseError path refused (InvalidComponent component at) =
-    (at.items ≡ path) × (refused ≡ Some (string_bytes component))
+IsParseError path invalid (InvalidComponent component at) =
+    (at.items ≡ path) × (invalid ≡ Some (string_bytes component))
     × (is_special_component (string_bytes component) ≡ true)
-IsParseError path refused (InvalidUtf8 at) =
-    (at.items ≡ path) × IsSomeAnd refused (λ component. is_utf8 component ≡ false)
-IsParseError path refused Memory = ⊤
+IsParseError path invalid (InvalidUtf8 at) =
+    (at.items ≡ path) × IsSomeAnd invalid (λ component. is_utf8 component ≡ false)
+IsParseError path invalid Memory = ⊤

@@ -99,7 +99,7 @@ impl Error for Fault {}
 impl From<AllocError> for Fault {
     ghost from_gives = { λ _ error. error ≡ Fault.Memory };
 
-    fn from(_refused: AllocError) -> Self {
+    fn from(_error: AllocError) -> Self {
         Fault::Memory
     }
 }
@@ -107,7 +107,7 @@ impl From<AllocError> for Fault {
 impl<T: Drop> From<AllocFailed<T>> for Fault {
     ghost from_gives = { λ _ error. error ≡ Fault.Memory };
 
-    fn from(_refused: AllocFailed<T>) -> Self {
+    fn from(_error: AllocFailed<T>) -> Self {
         Fault::Memory
     }
 }
@@ -115,7 +115,7 @@ impl<T: Drop> From<AllocFailed<T>> for Fault {
 impl From<AllocError> for StepFault {
     ghost from_gives = { λ _ error. error ≡ StepFault.Memory };
 
-    fn from(_refused: AllocError) -> Self {
+    fn from(_error: AllocError) -> Self {
         StepFault::Memory
     }
 }
@@ -123,7 +123,7 @@ impl From<AllocError> for StepFault {
 impl<T: Drop> From<AllocFailed<T>> for StepFault {
     ghost from_gives = { λ _ error. error ≡ StepFault.Memory };
 
-    fn from(_refused: AllocFailed<T>) -> Self {
+    fn from(_error: AllocFailed<T>) -> Self {
         StepFault::Memory
     }
 }

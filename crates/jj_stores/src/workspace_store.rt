@@ -21,7 +21,7 @@ pub enum WorkspaceStoreError {
 impl From<AllocError> for WorkspaceStoreError {
     ghost from_gives = { λ _ error. error ≡ WorkspaceStoreError.Memory };
 
-    fn from(_refused: AllocError) -> Self {
+    fn from(_error: AllocError) -> Self {
         WorkspaceStoreError::Memory
     }
 }
@@ -29,7 +29,7 @@ impl From<AllocError> for WorkspaceStoreError {
 impl<T: Drop> From<AllocFailed<T>> for WorkspaceStoreError {
     ghost from_gives = { λ _ error. error ≡ WorkspaceStoreError.Memory };
 
-    fn from(_refused: AllocFailed<T>) -> Self {
+    fn from(_error: AllocFailed<T>) -> Self {
         WorkspaceStoreError::Memory
     }
 }

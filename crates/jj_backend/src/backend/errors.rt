@@ -76,7 +76,7 @@ pub enum BackendError {
 impl From<AllocError> for BackendError {
     ghost from_gives = { λ _ error. error ≡ BackendError.Memory };
 
-    fn from(_refused: AllocError) -> Self {
+    fn from(_error: AllocError) -> Self {
         BackendError::Memory
     }
 }
@@ -84,7 +84,7 @@ impl From<AllocError> for BackendError {
 impl<T: Drop> From<AllocFailed<T>> for BackendError {
     ghost from_gives = { λ _ error. error ≡ BackendError.Memory };
 
-    fn from(_refused: AllocFailed<T>) -> Self {
+    fn from(_error: AllocFailed<T>) -> Self {
         BackendError::Memory
     }
 }

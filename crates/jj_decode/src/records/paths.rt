@@ -14,7 +14,7 @@ use jj_paths::repo_path::{InvalidNewRepoPathError, RepoPathBuf, RepoPathComponen
 use std::alloc::Global;
 
 // The error for a string at `start` that a constructor rejected.
-fn rejected(start: usize, _error: InvalidNewRepoPathError) -> DecodeError
+fn path_error(start: usize, _error: InvalidNewRepoPathError) -> DecodeError
     ensures { result ≡ Malformed InvalidValue start }
 {
     DecodeError::invalid_value(start)
@@ -29,7 +29,7 @@ impl ReadContent for RepoPathComponentBuf {
         let (text, end) = String::read(alloc, bytes, start)?;
         match RepoPathComponentBuf::new(text) {
             Ok(name) => Ok((name, end)),
-            Err(error) => Err(rejected(start, error)),
+            Err(error) => Err(path_error(start, error)),
         }
     }
 }
@@ -43,7 +43,7 @@ impl ReadContent for RepoPathBuf {
         let (text, end) = String::read(alloc, bytes, start)?;
         match RepoPathBuf::from_internal_string(text) {
             Ok(path) => Ok((path, end)),
-            Err(error) => Err(rejected(start, error)),
+            Err(error) => Err(path_error(start, error)),
         }
     }
 }

@@ -1,7 +1,7 @@
 //! The lexer: splits an expression into tokens with their offsets.
 ghost use Rattle.std.specs.Prelude.{◌≡◌, ◌<◌, ◌≤◌, length, IfOk, IfErr, IfSome};
 ghost use Rattle.std.specs.Option.{option_map};
-ghost use Rattle.jj_filesets.specs.Strings.{Gives};
+ghost use Rattle.jj_filesets.specs.Strings.{IsResultOf};
 ghost use Rattle.jj_filesets.specs.Tokens.{symbol_token, first_symbol, operand_token_at, token_at, Tokenizes, IsTokenError};
 
 use crate::fileset::error::FilesetParseError;
@@ -39,7 +39,7 @@ fn read_token<'a>(
     text: &'a [u8],
 ) -> Result<(Token, &'a [u8]), FilesetParseError>
     requires { length text.now ≤ total }
-    ensures token { Gives (λ read. (read.0, read.1.now)) result (token_at total text.now) }
+    ensures token { IsResultOf (λ read. (read.0, read.1.now)) result (token_at total text.now) }
     ensures shorter { IfOk result (λ read. length read.1.now < length text.now) }
 {
     match first_symbol(text) {
@@ -54,7 +54,7 @@ fn read_operand_token<'a>(
     text: &'a [u8],
 ) -> Result<(Token, &'a [u8]), FilesetParseError>
     requires { length text.now ≤ total }
-    ensures token { Gives (λ read. (read.0, read.1.now)) result
+    ensures token { IsResultOf (λ read. (read.0, read.1.now)) result
         (operand_token_at total text.now) }
     ensures shorter { IfOk result (λ read. length read.1.now < length text.now) }
 {

@@ -1,6 +1,6 @@
 //! Operands of an expression: strings with a kind of pattern, and functions.
 ghost use Rattle.std.specs.Prelude.{◌≡◌, ◌<◌, ◌≤◌, length, IfOk};
-ghost use Rattle.jj_filesets.specs.Strings.{Gives};
+ghost use Rattle.jj_filesets.specs.Strings.{IsResultOf};
 ghost use Rattle.jj_filesets.specs.Operands.{kind_named, function_named, has_glob_byte, is_glob_byte, operand_at, call_at, string_pattern_at, pattern_of, text_pattern, path_pattern, glob_pattern};
 
 use crate::fileset::FilePattern;
@@ -29,7 +29,7 @@ pub(crate) fn read_operand<'a>(
     text: &'a [u8],
 ) -> Result<(FilePattern, &'a [u8]), FilesetParseError>
     requires { length text.now ≤ total }
-    ensures operand { Gives (λ read. (read.0, read.1.now)) result (operand_at total text.now) }
+    ensures operand { IsResultOf (λ read. (read.0, read.1.now)) result (operand_at total text.now) }
     ensures shorter { IfOk result (λ read. length read.1.now < length text.now) }
 {
     let at = total - text.len();
@@ -53,7 +53,7 @@ fn read_call<'a>(
     text: &'a [u8],
 ) -> Result<(FilePattern, &'a [u8]), FilesetParseError>
     requires { length text.now ≤ total }
-    ensures call { Gives (λ read. (read.0, read.1.now)) result
+    ensures call { IsResultOf (λ read. (read.0, read.1.now)) result
         (call_at total at name.now text.now) }
     ensures shorter { IfOk result (λ read. length read.1.now < length text.now) }
 {
@@ -78,7 +78,7 @@ fn read_pattern<'a>(
     text: &'a [u8],
 ) -> Result<(FilePattern, &'a [u8]), FilesetParseError>
     requires { length text.now ≤ total }
-    ensures pattern { Gives (λ read. (read.0, read.1.now)) result
+    ensures pattern { IsResultOf (λ read. (read.0, read.1.now)) result
         (string_pattern_at total kind text.now) }
     ensures shorter { IfOk result (λ read. length read.1.now < length text.now) }
 {
@@ -123,7 +123,7 @@ fn pattern_of(
     at: usize,
     string: &[u8],
 ) -> Result<FilePattern, FilesetParseError>
-    ensures { Gives (λ pattern. pattern) result (pattern_of kind at string.now) }
+    ensures { IsResultOf (λ pattern. pattern) result (pattern_of kind at string.now) }
 {
     match str::from_utf8(string) {
         Ok(text) => text_pattern(alloc, kind, at, text),
@@ -138,7 +138,7 @@ fn text_pattern(
     at: usize,
     text: &str,
 ) -> Result<FilePattern, FilesetParseError>
-    ensures { Gives (λ pattern. pattern) result (text_pattern kind at text.now) }
+    ensures { IsResultOf (λ pattern. pattern) result (text_pattern kind at text.now) }
 {
     match kind {
         PatternKind::Prefix => path_pattern(alloc, true, at, text),
@@ -162,7 +162,7 @@ fn path_pattern(
     at: usize,
     text: &str,
 ) -> Result<FilePattern, FilesetParseError>
-    ensures { Gives (λ pattern. pattern) result (path_pattern prefix at text.now) }
+    ensures { IsResultOf (λ pattern. pattern) result (path_pattern prefix at text.now) }
 {
     let string = String::from_str(alloc, text)?;
     match RepoPathBuf::from_internal_string(string) {
@@ -183,7 +183,7 @@ fn glob_pattern(
     at: usize,
     text: &str,
 ) -> Result<FilePattern, FilesetParseError>
-    ensures { Gives (λ pattern. pattern) result (glob_pattern prefix at text.now) }
+    ensures { IsResultOf (λ pattern. pattern) result (glob_pattern prefix at text.now) }
 {
     match Glob::parse(alloc, text, true, false) {
         Ok(glob) if prefix => Ok(FilePattern::PrefixGlob(glob)),

@@ -1,6 +1,6 @@
 //! Operator-precedence parser (shunting-yard) from tokens to a postfix program.
 ghost use Rattle.std.specs.Prelude.{◌≡◌, true, false, [], ◌∷◌, Ok, reverse, OnOk, IfOk};
-ghost use Rattle.jj_filesets.specs.Strings.{Gives};
+ghost use Rattle.jj_filesets.specs.Strings.{IsResultOf};
 ghost use Rattle.jj_filesets.specs.Parsing.{before, state_of, after_operand, after_bar, unwound, after_token, after_end, parsed_after};
 
 use crate::fileset::error::{FilesetParseError, FilesetParseErrorKind};
@@ -30,7 +30,7 @@ pub(crate) fn parse_tokens(
     len: usize,
     lexemes: Vec<Lexeme>,
 ) -> Result<Vec<Step>, FilesetParseError>
-    ensures { Gives (λ program. program.items) result
+    ensures { IsResultOf (λ program. program.items) result
         (parsed_after len (Ok (before [] [])) lexemes.items) }
 {
     let mut parser = Parser::new(alloc);
@@ -52,7 +52,7 @@ impl Parser {
     }
 
     fn take(&mut self, lexeme: Lexeme) -> Result<(), FilesetParseError>
-        ensures { Gives (λ done. state_of self.new) result
+        ensures { IsResultOf (λ done. state_of self.new) result
             (after_token (state_of self.old) lexeme.at lexeme.token) }
     {
         let Lexeme { at, token } = lexeme;
@@ -66,7 +66,7 @@ impl Parser {
     // Takes a token where an operand is expected.
     fn take_operand(&mut self, at: usize, token: Token) -> Result<(), FilesetParseError>
         requires { self.old.after_operand ≡ false }
-        ensures { Gives (λ done. state_of self.new) result
+        ensures { IsResultOf (λ done. state_of self.new) result
             (after_token (state_of self.old) at token) }
     {
         match token {
@@ -86,7 +86,7 @@ impl Parser {
     // Takes a token after an operand.
     fn take_operator(&mut self, at: usize, token: Token) -> Result<(), FilesetParseError>
         requires { self.old.after_operand ≡ true }
-        ensures { Gives (λ done. state_of self.new) result
+        ensures { IsResultOf (λ done. state_of self.new) result
             (after_token (state_of self.old) at token) }
     {
         match token {
@@ -175,7 +175,7 @@ impl Parser {
 
     // Returns the program at the end of the tokens.
     fn finish(mut self, len: usize) -> Result<Vec<Step>, FilesetParseError>
-        ensures { Gives (λ program. program.items) result (after_end len (state_of self)) }
+        ensures { IsResultOf (λ program. program.items) result (after_end len (state_of self)) }
     {
         if !self.after_operand {
             return Err(FilesetParseError::new(len, FilesetParseErrorKind::ExpectedOperand));

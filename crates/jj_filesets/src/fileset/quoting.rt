@@ -1,6 +1,6 @@
 //! Strings of an expression: words, quoted strings with escapes, and raw strings.
 ghost use Rattle.std.specs.Prelude.{◌≡◌, ◌<◌, ◌≤◌, ◌+◌, ◌*◌, ◌%◌, length, IfOk};
-ghost use Rattle.jj_filesets.specs.Strings.{is_space, is_word_byte, word, quoted, quoted_byte, escaped_byte, hex_value, raw, string_at, Gives};
+ghost use Rattle.jj_filesets.specs.Strings.{is_space, is_word_byte, word, quoted, quoted_byte, escaped_byte, hex_value, raw, string_at, IsResultOf};
 
 use crate::fileset::error::{FilesetParseError, FilesetParseErrorKind};
 use std::alloc::Global;
@@ -65,7 +65,8 @@ pub(crate) fn read_string<'a>(
     text: &'a [u8],
 ) -> Result<(Vec<u8>, &'a [u8]), FilesetParseError>
     requires { length text.now ≤ total }
-    ensures string { Gives (λ read. (read.0.items, read.1.now)) result (string_at total text.now) }
+    ensures string { IsResultOf (λ read. (read.0.items, read.1.now)) result
+        (string_at total text.now) }
     ensures shorter { IfOk result (λ read. length read.1.now < length text.now) }
 {
     let at = total - text.len();
@@ -86,7 +87,7 @@ fn read_raw<'a>(
     start: usize,
     text: &'a [u8],
 ) -> Result<(Vec<u8>, &'a [u8]), FilesetParseError>
-    ensures string { Gives (λ read. (read.0.items, read.1.now)) result (raw start text.now) }
+    ensures string { IsResultOf (λ read. (read.0.items, read.1.now)) result (raw start text.now) }
     ensures shorter { IfOk result (λ read. length read.1.now < length text.now) }
 {
     let mut bytes = Vec::new(alloc);
@@ -109,7 +110,7 @@ fn read_quoted<'a>(
     text: &'a [u8],
 ) -> Result<(Vec<u8>, &'a [u8]), FilesetParseError>
     requires { length text.now ≤ total }
-    ensures string { Gives (λ read. (read.0.items, read.1.now)) result
+    ensures string { IsResultOf (λ read. (read.0.items, read.1.now)) result
         (quoted total start Escape.Outside text.now) }
     ensures shorter { IfOk result (λ read. length read.1.now < length text.now) }
 {

@@ -36,7 +36,7 @@ pub enum OpStoreError {
 impl From<AllocError> for OpStoreError {
     ghost from_gives = { λ _ error. error ≡ OpStoreError.Memory };
 
-    fn from(_refused: AllocError) -> Self {
+    fn from(_error: AllocError) -> Self {
         OpStoreError::Memory
     }
 }
@@ -44,7 +44,7 @@ impl From<AllocError> for OpStoreError {
 impl<T: Drop> From<AllocFailed<T>> for OpStoreError {
     ghost from_gives = { λ _ error. error ≡ OpStoreError.Memory };
 
-    fn from(_refused: AllocFailed<T>) -> Self {
+    fn from(_error: AllocFailed<T>) -> Self {
         OpStoreError::Memory
     }
 }

@@ -16,8 +16,8 @@ returns-in_default-clause-error c =
     let name = c.in-Some.name.now in
     let utf8 : is_utf8 name ≡ false = false_from_ne_true (is_utf8 name) (λ h. c.in_default.ensures.cases.0 (IsUtf8-from_is_utf8 name h)) in
     let is = disallowed-not_utf8 c.loop-name.name-iterator.rest.now name _ c.in-Some.ensures.steps (c.if-eq.ensures ∙ ap (bytes_eq name) c.as_slice.ensures) in
-    let refused : is_disallowed name ≡ true = is ∙ ap not utf8 in
-    let first : find is_disallowed (name ∷ remaining_names c.next.new.self) ≡ Some name = rw refused refl in
+    let disallowed : is_disallowed name ≡ true = is ∙ ap not utf8 in
+    let first : find is_disallowed (name ∷ remaining_names c.next.new.self) ≡ Some name = rw disallowed refl in
     let found : find is_disallowed (path_names c.args.path.now) ≡ Some name = sym c.loop-name.invariant.1 ∙ ap (find is_disallowed) c.in-Some.ensures.steps ∙ first in
     subst (λ r. IsParseError c.args.path.now r c.not_utf8.result) (sym found) (c.not_utf8.ensures name utf8)
 

@@ -20,5 +20,5 @@ pub returns-in-Err-clause-malformed : goal.returns-in-Err-clause-malformed
 returns-in-Err-clause-malformed c =
     let text = string_bytes c.in_ok-text.text in
     let s = string_at c.args.bytes.now c.args.start c.in_ok-text.end c.in_ok-text.text c.in_ok-text.ensures.decoded in
-    rw c.rejected.ensures (none_if_invalid IsShortName (λ _ valid. valid.1) c.args.bytes.now c.args.start text c.in_ok-text.end c.requires s
+    rw c.path_error.ensures (none_if_invalid IsShortName (λ _ valid. valid.1) c.args.bytes.now c.args.start text c.in_ok-text.end c.requires s
     (λ valid. not_valid (is_name text) text c.in-Err.error c.in-Err.ensures.error valid.0))
