@@ -12,6 +12,7 @@ pub mod PatternSound
 pub mod PatternTrees
 pub mod PatternAdds
 pub mod PatternOrder
+pub mod LinkedPatterns
 pub mod FoundMarks
 pub mod AcceptedPaths
 pub mod EmptyVisits

@@ -6,6 +6,7 @@ pub mod PathLists
 pub mod Patterns
 pub mod PatternTree
 pub mod PatternOrder
+pub mod LinkedPatterns
 pub mod Marks
 pub mod KeyedMarks
 pub mod Walk

@@ -1,12 +1,15 @@
 //! The glob patterns of one directory: a list that remembers whether it is sorted.
 ghost use Rattle.std.specs.Prelude.{◌≡◌, [], ◌∷◌, ◌++◌, MatchResult};
 ghost use Rattle.std.specs.List.{list_any};
+ghost use Rattle.std.specs.Option.{option_map_or};
 ghost use Rattle.jj_paths.specs.Names.{path_of};
 ghost use Rattle.jj_matchers.specs.Patterns.{is_stars, accepts_tail, covers_tail};
 ghost use Rattle.jj_matchers.specs.PatternOrder.{matches_string};
 
 use crate::matchers::PathGlobPattern;
-use crate::matchers::pattern_order::{any_match_sorted, stays_sorted};
+use crate::matchers::pattern_order::{
+    LinkedPattern, any_match_sorted, find_enclosing, stays_sorted,
+};
 use jj_paths::repo_path::RepoPath;
 use std::alloc::{AllocError, Global};
 use std::marker::Model;
@@ -14,8 +17,8 @@ use std::marker::Model;
 /// A list of glob patterns. An empty one does not allocate.
 #[derive(Debug, Drop)]
 pub struct DirPatterns {
-    patterns: Option<Vec<PathGlobPattern>>,
-    // Whether the patterns are known to be sorted by literal prefix.
+    patterns: Option<Vec<LinkedPattern>>,
+    // Whether the patterns are known to be sorted by literal prefix, so that their links hold.
     is_sorted: bool,
 }
 
@@ -23,14 +26,14 @@ impl Model for DirPatterns {
     ghost use Rattle.std.specs.Prelude.{◌≡◌, true, List, []};
     ghost use Rattle.std.specs.Option.{option_map_or};
     ghost use Rattle.jj_globs.specs.GlobMeaning.{GlobSpec};
-    ghost use Rattle.jj_matchers.specs.PatternOrder.{is_sorted_by_prefix};
+    ghost use Rattle.jj_matchers.specs.LinkedPatterns.{AreSortedAndLinked, globs_of};
 
     ghost Value = { List GlobSpec };
 
-    ghost view = { λ d. option_map_or (λ patterns. patterns.items) d.patterns [] };
+    ghost view = { λ d. globs_of (option_map_or (λ patterns. patterns.items) d.patterns []) };
 
     ghost invariant = { λ d. d.is_sorted ≡ true
-        → is_sorted_by_prefix (option_map_or (λ patterns. patterns.items) d.patterns []) ≡ true };
+        → AreSortedAndLinked (option_map_or (λ patterns. patterns.items) d.patterns []) };
 }
 
 impl Default for DirPatterns {
@@ -66,12 +69,19 @@ impl DirPatterns {
         match &mut self.patterns {
             Some(patterns) => {
                 let is_sorted = self.is_sorted && stays_sorted(patterns.as_slice(), &pattern);
-                patterns.push(pattern)?;
+                let enclosing_len = find_enclosing(patterns.as_slice(), &pattern);
+                patterns.push(LinkedPattern {
+                    pattern,
+                    enclosing_len,
+                })?;
                 self.is_sorted = is_sorted;
             }
             None => {
                 let mut patterns = Vec::new(alloc);
-                patterns.push(pattern)?;
+                patterns.push(LinkedPattern {
+                    pattern,
+                    enclosing_len: 0,
+                })?;
                 self.patterns = Some(patterns);
             }
         }
@@ -82,7 +92,7 @@ impl DirPatterns {
     pub fn has_patterns(&self) -> bool
         ensures { result ≡ has_globs self.now }
     {
-        !self.as_slice().is_empty()
+        !as_slice(&self.patterns).is_empty()
     }
 
     /// Returns whether a pattern matches the path with this tail below the directory, or with
@@ -112,27 +122,41 @@ impl DirPatterns {
     fn any_matches(&self, prefix_paths: bool, text: &str) -> bool
         ensures { result ≡ list_any (λ glob. matches_string prefix_paths glob text.now) self.now }
     {
+        let patterns = as_slice(&self.patterns);
         if self.is_sorted {
-            any_match_sorted(self.as_slice(), prefix_paths, text)
+            any_match_sorted(patterns, prefix_paths, text)
         } else {
-            self.as_slice()
-                .iter()
-                .any(|pattern| pattern.matches_path(prefix_paths, text))
+            any_match(patterns, prefix_paths, text)
         }
     }
 
     fn any_stars(&self) -> bool
         ensures { result ≡ list_any (λ glob. is_stars glob.text) self.now }
     {
-        self.as_slice().iter().any(|pattern| pattern.is_stars())
+        any_are_stars(as_slice(&self.patterns))
     }
+}
 
-    fn as_slice(&self) -> &[PathGlobPattern]
-        ensures { result.now ≡ self.now }
-    {
-        match &self.patterns {
-            Some(patterns) => patterns.as_slice(),
-            None => &[],
-        }
+fn any_match(patterns: &[LinkedPattern], prefix_paths: bool, text: &str) -> bool
+    ensures { result ≡ list_any (λ linked. matches_string prefix_paths linked.pattern text.now)
+        patterns.now }
+{
+    patterns
+        .iter()
+        .any(|linked| linked.pattern.matches_path(prefix_paths, text))
+}
+
+fn any_are_stars(patterns: &[LinkedPattern]) -> bool
+    ensures { result ≡ list_any (λ linked. is_stars linked.pattern.text) patterns.now }
+{
+    patterns.iter().any(|linked| linked.pattern.is_stars())
+}
+
+fn as_slice(patterns: &Option<Vec<LinkedPattern>>) -> &[LinkedPattern]
+    ensures { result.now ≡ option_map_or (λ list. list.items) patterns.now [] }
+{
+    match patterns {
+        Some(list) => list.as_slice(),
+        None => &[],
     }
 }

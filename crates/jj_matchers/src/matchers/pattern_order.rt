@@ -1,54 +1,110 @@
-//! Search among patterns that are sorted by literal prefix: only those whose literal prefix is one
-//! of the path are matched.
-ghost use Rattle.std.specs.Prelude.{◌≡◌, ◌∷◌, ◌++◌, [], true, length, nat_eq, IsTrue};
-ghost use Rattle.std.specs.List.{list_any, filter, common_prefix_len};
+//! Search among patterns that are sorted by literal prefix: a binary search for the last one that
+//! is at most the path, and from there a chain of links to patterns with shorter literal prefixes.
+ghost use Rattle.std.specs.Prelude.{◌≡◌, ◌∷◌, ◌++◌, [], true, false, drop, take};
+ghost use Rattle.std.specs.List.{list_any};
 ghost use Rattle.jj_globs.specs.GlobPrefix.{glob_prefix};
 ghost use Rattle.jj_matchers.specs.PatternOrder.{is_at_most, is_sorted_by_prefix, matches_string};
+ghost use Rattle.jj_matchers.specs.LinkedPatterns.{AreLinked, IsCutAt, encloses, globs_of};
 
 use crate::matchers::PathGlobPattern;
+use std::alloc::AllocError;
 
-// Returns whether a pattern matches. Scans from the greatest prefix down, and skips those greater
-// than the path by binary search. Let the last pattern's prefix share n bytes with the path: then
-// no smaller prefix shares more, so the remaining ones are only compared with these n bytes.
-pub(super) fn any_match_sorted(patterns: &[PathGlobPattern], prefix_paths: bool, text: &str) -> bool
-    requires order { is_sorted_by_prefix patterns.now ≡ true }
-    ensures { result ≡ list_any (λ glob. matches_string prefix_paths glob text.now) patterns.now }
+// A pattern in a sorted list, with a link to the nearest earlier one whose literal prefix is a
+// proper prefix of this one's.
+#[derive(Debug, Drop)]
+pub(super) struct LinkedPattern {
+    pub pattern: PathGlobPattern,
+    // The number of patterns up to the linked one, or 0 if there is none.
+    pub enclosing_len: usize,
+}
+
+impl Clone for LinkedPattern {
+    ghost is_clone = { λ linked copy. copy ≡ linked };
+
+    fn clone(&self) -> Result<LinkedPattern, AllocError> {
+        Ok(LinkedPattern {
+            pattern: self.pattern.clone()?,
+            enclosing_len: self.enclosing_len,
+        })
+    }
+}
+
+impl LinkedPattern {
+    // Returns the earlier patterns up to the linked one.
+    fn enclosing<'a>(&self, earlier: &'a [LinkedPattern]) -> &'a [LinkedPattern]
+        ensures { result.now ≡ take self.now.enclosing_len earlier.now }
+    {
+        &earlier[..self.enclosing_len.min(earlier.len())]
+    }
+}
+
+// Returns whether a pattern matches. Let the last remaining pattern's literal prefix be at most the
+// path, but no prefix of it. Then each earlier prefix of the path is also one of that literal
+// prefix, so the patterns after the linked one cannot match.
+pub(super) fn any_match_sorted(patterns: &[LinkedPattern], prefix_paths: bool, text: &str) -> bool
+    requires order { is_sorted_by_prefix (globs_of patterns.now) ≡ true }
+    requires links { AreLinked patterns.now }
+    ensures { result ≡ list_any (λ glob. matches_string prefix_paths glob text.now)
+        (globs_of patterns.now) }
 {
-    let mut left = patterns;
-    let mut shared = text.as_bytes();
+    let bytes = text.as_bytes();
+    let mut left = at_most(patterns, bytes);
     while let Some((last, before)) = left.split_last() {
-        let prefix = last.literal_prefix();
-        let length = common_prefix_len(prefix, shared);
-        if length < prefix.len() && !is_prefix_at_most(last, shared) {
-            left = at_most(before, shared);
+        if !bytes.starts_with(last.pattern.literal_prefix()) {
+            left = last.enclosing(before);
             continue;
         }
-        if length == prefix.len() && last.matches_path(prefix_paths, text) {
+        if last.pattern.matches_path(prefix_paths, text) {
             return true;
         }
         left = before;
-        shared = &shared[..length];
     }
     false
 }
 
+// Returns the length of the list up to the last pattern whose literal prefix is a proper prefix of
+// this pattern's, or 0. It follows the links, so n patterns take O(n) comparisons.
+pub(super) fn find_enclosing(patterns: &[LinkedPattern], pattern: &PathGlobPattern) -> usize
+    ensures { is_sorted_by_prefix (globs_of patterns.now ++ pattern.now ∷ []) ≡ true
+        → AreLinked patterns.now → list_any (encloses (glob_prefix pattern.now))
+        (globs_of (drop result patterns.now)) ≡ false }
+{
+    let mut left = patterns;
+    while let Some((last, before)) = left.split_last() {
+        if encloses(&last.pattern, pattern) {
+            return left.len();
+        }
+        left = last.enclosing(before);
+    }
+    0
+}
+
+// Returns whether the literal prefix of the first pattern is a proper prefix of the second's.
+fn encloses(pattern: &PathGlobPattern, other: &PathGlobPattern) -> bool
+    ensures { result ≡ encloses (glob_prefix other.now) pattern.now }
+{
+    let prefix = pattern.literal_prefix();
+    let bytes = other.literal_prefix();
+    prefix.len() < bytes.len() && bytes.starts_with(prefix)
+}
+
 // Returns whether the list is still sorted after the pattern is appended.
-pub(super) fn stays_sorted(patterns: &[PathGlobPattern], pattern: &PathGlobPattern) -> bool
-    ensures { is_sorted_by_prefix patterns.now ≡ true
-        → result ≡ is_sorted_by_prefix (patterns.now ++ pattern.now ∷ []) }
+pub(super) fn stays_sorted(patterns: &[LinkedPattern], pattern: &PathGlobPattern) -> bool
+    ensures { is_sorted_by_prefix (globs_of patterns.now) ≡ true
+        → result ≡ is_sorted_by_prefix (globs_of patterns.now ++ pattern.now ∷ []) }
 {
     match patterns.split_last() {
-        Some((last, _)) => is_prefix_at_most(last, pattern.literal_prefix()),
+        Some((last, _)) => is_prefix_at_most(&last.pattern, pattern.literal_prefix()),
         None => true,
     }
 }
 
 // Returns the patterns whose literal prefix is at most these bytes.
-fn at_most<'a>(patterns: &'a [PathGlobPattern], bytes: &[u8]) -> &'a [PathGlobPattern]
-    requires order { is_sorted_by_prefix patterns.now ≡ true }
-    ensures { result.now ≡ filter (λ glob. is_at_most (glob_prefix glob) bytes.now) patterns.now }
+fn at_most<'a>(patterns: &'a [LinkedPattern], bytes: &[u8]) -> &'a [LinkedPattern]
+    requires order { is_sorted_by_prefix (globs_of patterns.now) ≡ true }
+    ensures { IsCutAt bytes.now patterns.now result.now }
 {
-    let end = patterns.partition_point(|pattern| is_prefix_at_most(pattern, bytes));
+    let end = patterns.partition_point(|linked| is_prefix_at_most(&linked.pattern, bytes));
     &patterns[..end]
 }
 
@@ -56,15 +112,4 @@ fn is_prefix_at_most(pattern: &PathGlobPattern, bytes: &[u8]) -> bool
     ensures { result ≡ is_at_most (glob_prefix pattern.now) bytes.now }
 {
     pattern.literal_prefix().cmp(&bytes).is_le()
-}
-
-// Returns the length of the longest common prefix.
-fn common_prefix_len(prefix: &[u8], bytes: &[u8]) -> usize
-    ensures { result ≡ common_prefix_len nat_eq prefix.now bytes.now }
-{
-    let mut shared = 0;
-    while shared < prefix.len() && shared < bytes.len() && prefix[shared] == bytes[shared] {
-        shared += 1;
-    }
-    shared
 }
