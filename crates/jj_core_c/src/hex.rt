@@ -12,7 +12,7 @@ use jj_content::hex_util::{decode_hex, decode_reverse_hex, encode_hex, encode_re
 use jj_ids::object_id::{CommitId, HexPrefix};
 use std::alloc::{AllocError, Global};
 
-fn encoded(alloc: Global, bytes: &[u8], reverse: bool) -> Result<String, AllocError>
+fn encode_digits(alloc: Global, bytes: &[u8], reverse: bool) -> Result<String, AllocError>
     ensures { IfOk result (λ text. string_bytes text ≡ encode_with (alphabet reverse) bytes.now) }
 {
     if reverse {
@@ -22,7 +22,7 @@ fn encoded(alloc: Global, bytes: &[u8], reverse: bool) -> Result<String, AllocEr
     }
 }
 
-fn decoded(alloc: Global, text: &[u8], reverse: bool) -> Result<Option<Vec<u8>>, AllocError>
+fn decode_digits(alloc: Global, text: &[u8], reverse: bool) -> Result<Option<Vec<u8>>, AllocError>
     ensures { IfOk result (IsDecoding (λ bytes. bytes.items) (alphabet reverse) text.now) }
 {
     if reverse {
@@ -40,7 +40,7 @@ fn encode(alloc: Global, bytes: &[u8], reverse: bool, text: &mut [u8]) -> Result
     if text.len() / 2 < bytes.len() {
         return Err(Error::Length);
     }
-    let Ok(digits) = encoded(alloc, bytes, reverse) else {
+    let Ok(digits) = encode_digits(alloc, bytes, reverse) else {
         return Err(Error::Memory);
     };
     Ok(write_bytes(text, digits.as_bytes()))
@@ -55,7 +55,7 @@ fn decode(alloc: Global, text: &[u8], reverse: bool, bytes: &mut [u8]) -> Result
     if bytes.len() < text.len() / 2 {
         return Err(Error::Length);
     }
-    match decoded(alloc, text, reverse) {
+    match decode_digits(alloc, text, reverse) {
         Ok(Some(items)) => Ok(write_bytes(bytes, &items)),
         Ok(None) => Err(Error::Syntax),
         Err(_) => Err(Error::Memory),

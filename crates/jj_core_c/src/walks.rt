@@ -1,5 +1,5 @@
 //! Adapters from graphs in arrays to the walks of `jj_dag`. Nodes are below the number of lists, so
-//! sets of nodes are sparse sets, without hashing.
+//! sets and maps of nodes are sparse sets and arrays, without hashing.
 ghost use Rattle.std.specs.Prelude.{◌≡◌, IfOk, IsOkAnd, MatchBool};
 ghost use Rattle.std.specs.Iterator.{YieldsFirst, item_count};
 ghost use Rattle.std.specs.Iterator.Adapters.{copied_source};
@@ -12,7 +12,7 @@ ghost use Rattle.jj_core_c.specs.GraphViews.{graph_in};
 
 use crate::array_graph::ArrayGraph;
 use jj_dag::dag_walk::{WalkError, heads_in, topo_order_forward_in};
-use jj_dag::dag_walk_async::{NodeState, closest_common_nodes_in, topo_order_reverse_ord};
+use jj_dag::dag_walk_async::{NodeState, closest_common_nodes_in, topo_order_reverse_ord_in};
 use jj_dag::dense_map::DenseMap;
 use jj_dag::dense_set::DenseSet;
 use std::alloc::{AllocError, Global};
@@ -29,7 +29,7 @@ fn sound_targets_of<'a>(
     Ok(graph.targets_of(node).iter().copied())
 }
 
-// Iterates over nodes in the fallible form that `topo_order_reverse_ord` takes.
+// Iterates over nodes in the fallible form that `topo_order_reverse_ord_in` takes.
 #[derive(Drop)]
 struct SoundNodes<'a> {
     nodes: &'a [usize],
@@ -94,8 +94,10 @@ pub(crate) fn greatest_order(
     ensures { IfOk result (λ order. IsGreatestTopologicalOrder
         (graph_in graph.now) nodes.now order.items) }
 {
-    let order = topo_order_reverse_ord(
+    let mut index_of: DenseMap<usize> = DenseMap::new(alloc);
+    let order = topo_order_reverse_ord_in(
         alloc,
+        &mut index_of,
         SoundNodes { nodes },
         |node: &usize| Ok(*node),
         |node: &usize| sound_items_of(graph, *node),

@@ -7,8 +7,8 @@ use Rattle.jj_core_c.specs.GraphViews.{graph_in}
 use Rattle.jj_core_c.proofs.WalkResults.{implements_items, model_of, no_beginning, sound_nodes}
 use Rattle.jj_core_c.proofs.walks.greatest_order.Goals as goal
 
-pub topo_order_reverse_ord-order-requires-clause-graph : goal.topo_order_reverse_ord-order-requires-clause-graph
-topo_order_reverse_ord-order-requires-clause-graph c = record {
+pub topo_order_reverse_ord_in-order-requires-clause-graph : goal.topo_order_reverse_ord_in-order-requires-clause-graph
+topo_order_reverse_ord_in-order-requires-clause-graph c = record {
   id_fn = search rules;
   neighbors_fn = search (rules, of_calls);
   lists = always_returns_same _ _ _ (λ a r f h. (λ it b. (search rules, search rules), search (rules, of_calls, h)));
