@@ -1,27 +1,27 @@
 -- `parse` on strings without a leading plus or zero.
-use Rattle.std.proofs.Common.{◌≡◌, ◌≢◌, ℕ, ◌<◌, ◌^◌, List, Bool, true, false, Option, Result, Ok, Err, Some, None, cond, length, slice_index, get_or, refl, sym, ap, ◌∙◌, arith, rules, subst, nat_lt, suc, lit<}
+use Rattle.std.proofs.Common.{◌≡◌, ◌≢◌, ℕ, ◌<◌, ◌≤◌, ◌^◌, List, Bool, true, false, Option, Result, Ok, Err, Some, None, cond, length, get_or, refl, sym, ap, ◌∙◌, arith, rules, subst, nat_lt, suc, lit<}
 use Prim.Native.Nat.{zero}
 use Rattle.std.specs.Prelude.{◌&&◌}
 use Rattle.std.specs.Result.{result_ok}
 use Rattle.std.specs.Fmt.{decimal}
 use Rattle.std.specs.Str.{bytes_eq}
 use Rattle.std.specs.Str.Parse.{digits_value, AllDigits, ParsesUnsigned}
-use Rattle.std.proofs.lemmas.Str.Parse.{IsNumeralModel, numerals_by_value, tells_digits, parse_plain, digit_at}
+use Rattle.std.proofs.lemmas.Str.Parse.{IsNumeralModel, numerals_by_value, tells_digits, digits_value_short, parse_plain, digit_at}
 use Rattle.std.proofs.lemmas.Fmt.{decimal-digits_value, decimal_is_IsNumeral, decimal_digit, first_decimal}
 use Rattle.std.proofs.lemmas.Slice.Eq.{bytes_eq-Decides}
 use Rattle.std.proofs.lemmas.Bool.{false_from_ne_true}
 use Rattle.jj_program.specs.GraphCommand.{is_number}
+use Rattle.jj_program.specs.GraphViews.{IsPlain}
 
 -- the number of a canonical decimal string
 abbrev pub number_of : List ℕ → Option ℕ
 number_of text = cond (is_number text) (Some (digits_value 10 text)) None
 
--- no leading `+`, and no leading zero before another digit
-abbrev pub IsPlain : List ℕ → Type 0
-IsPlain text = (slice_index text 0 ≡ 48 → length text < 2) × (slice_index text 0 ≢ 43)
-
 own : IsNumeralModel (AllDigits 10) (digits_value 10)
 own = numerals_by_value (AllDigits 10) tells_digits
+
+pub short_value : (text : List ℕ) (k : ℕ) → AllDigits 10 text → length text ≤ k → digits_value 10 text < 10 ^ k
+short_value text k digits short = digits_value_short own text k digits short
 
 and_parts : (a b : Bool) → (a && b) ≡ true → (a ≡ true) × (b ≡ true)
 and_parts true true h = (refl, refl)
@@ -73,12 +73,12 @@ no_number text h = let e : is_number text ≡ false = false_from_ne_true (is_num
 -- `parse` of a plain string returns its number
 pub number_of-parse : {E : Type 0} (text : List ℕ) (r : Result ℕ E) → ParsesUnsigned 64 10 text r → IsPlain text → result_ok r ≡ number_of text
 number_of-parse {E = E} text (Ok n) parsed plain =
-    let ((digits, some, small), value) = parse_plain own {E = E} 64 text (Ok n) parsed plain.1 in
-    ap Some value ∙ sym (number_of_digits text digits some (λ h. omega (arith, plain.0 h)) small)
+    let ((digits, some, small), value) = parse_plain own {E = E} 64 text (Ok n) parsed plain.2 in
+    ap Some value ∙ sym (number_of_digits text digits some (λ h. omega (arith, plain.1 h)) small)
 number_of-parse {E = E} text (Err e) parsed plain =
-    let refused = parse_plain own {E = E} 64 text (Err e) parsed plain.1 in
+    let refused = parse_plain own {E = E} 64 text (Err e) parsed plain.2 in
     sym (no_number text (λ h. let it = number_is_digits text h in refused (it.digits, it.some, it.small)))
 
 -- no other string is canonical
 pub number_of-not_plain : (text : List ℕ) → ¬ (IsPlain text) → number_of text ≡ None
-number_of-not_plain text h = no_number text (λ is. let it = number_is_digits text is in h ((λ e. omega (arith, it.zero e)), it.no_plus))
+number_of-not_plain text h = no_number text (λ is. let it = number_is_digits text is in h (it.some, (λ e. omega (arith, it.zero e)), it.no_plus))

@@ -1,34 +1,34 @@
 //! The adjacency lists of the input, as parts of one array.
-ghost use Rattle.std.specs.Prelude.{◌≡◌, ◌==◌, ◌<◌, ℕ, List, IsTrue, Some, None, All, MatchBool, MatchOption, cond, false, get_or, is_some, length, map, not, IfOk};
-ghost use Rattle.std.specs.Map.{lookup};
-ghost use Rattle.jj_program.specs.Parts.{AreAbove, AreBelow, AreParts, HoldsForNone, IsAscending, part_in};
+ghost use Rattle.std.specs.Prelude.{◌≡◌, ◌==◌, ◌<◌, ◌+◌, ◌^◌, ℕ, IsTrue, MatchResult, Some, None, cond, get_or, is_some, length, map, not, IfOk};
+ghost use Rattle.jj_program.specs.Parts.{AreParts, entry_part, part_in};
 
 use std::alloc::{AllocError, Global};
-use std::collections::{BTreeMap, VecDeque};
+use std::collections::BTreeMap;
 
-// Where the list of each node starts and ends among the targets. Lines in ascending or descending
-// order of their nodes extend a sorted queue at its end or its start; the nodes of other lines are
-// in a map.
+// The entry of an id without a list. No list ends before it starts.
+const NO_PART: (usize, usize) = (1, 0);
+
+// Where the list of each node starts and ends among the targets: by id for ids below the limit, and
+// in a map for greater ones.
 #[derive(Drop)]
 pub(crate) struct Edges {
-    ascending: VecDeque<(u64, (usize, usize))>,
+    limit: u64,
+    table: Vec<(usize, usize)>,
     others: BTreeMap<u64, (usize, usize)>,
     targets: Vec<u64>,
-    ghost sorted: { IsAscending ascending.items },
-    ghost below: { HoldsForNone (AreBelow ascending.items) others },
-    ghost above: { HoldsForNone (AreAbove ascending.items) others },
-    ghost within: { AreParts (part_in ascending.items others) (length targets.items) },
+    ghost within: { AreParts (part_in limit table.items others) (length targets.items) },
 }
 
 impl Edges {
     ghost use Rattle.jj_program.specs.GraphViews.{listed_by, part_at};
 
     // Creates it without lists.
-    pub(crate) fn new(alloc: Global) -> Edges
+    pub(crate) fn new(alloc: Global, limit: u64) -> Edges
         ensures { listed_by result ≡ (λ id. None) }
     {
         Edges {
-            ascending: VecDeque::new(alloc),
+            limit,
+            table: Vec::new(alloc),
             others: BTreeMap::new(alloc),
             targets: Vec::new(alloc),
         }
@@ -44,19 +44,16 @@ impl Edges {
         let start = self.targets.len();
         self.targets.extend_from_slice(neighbors)?;
         let part = (start, self.targets.len());
-        if is_above(&self.ascending, id) {
-            self.ascending.push_back((id, part))?;
-            return Ok(true);
-        }
-        if is_below(&self.ascending, id) {
-            self.ascending.push_front((id, part))?;
-            return Ok(true);
-        }
-        if find(&self.ascending, 0, id).is_some() {
-            return Ok(false);
+        if id < self.limit {
+            return put(&mut self.table, id as usize, part);
         }
         let old = self.others.insert(id, part)?;
         Ok(old.is_none())
+    }
+
+    // The table has no entries for ids from this one on.
+    pub(crate) fn limit(&self) -> u64 {
+        self.limit
     }
 
     // The neighbors of all nodes.
@@ -66,7 +63,7 @@ impl Edges {
         &self.targets
     }
 
-    // Returns the parts of these ids; takes the least time if they are ascending.
+    // Returns the parts of these ids.
     pub(crate) fn parts_of(
         &self,
         alloc: Global,
@@ -75,20 +72,18 @@ impl Edges {
         ensures { IfOk result (λ parts. parts.items ≡ map (part_at self.now) ids.now) }
     {
         let mut parts = Vec::with_capacity(alloc, ids.len())?;
-        let mut next = 0;
         for id in ids {
-            parts.push(self.part(&mut next, *id))?;
+            parts.push(self.part(*id))?;
         }
         Ok(parts)
     }
 
-    // Returns the part of an id, which is looked for at the index `next` first.
-    fn part(&self, next: &mut usize, id: u64) -> (usize, usize)
+    // Returns the part of an id.
+    fn part(&self, id: u64) -> (usize, usize)
         ensures { result ≡ part_at self.now id }
     {
-        if let Some(index) = find(&self.ascending, *next, id) {
-            *next = index + 1;
-            return self.ascending[index].1;
+        if id < self.limit {
+            return table_part(&self.table, id).unwrap_or((0, 0));
         }
         match self.others.get(&id) {
             Some(part) => *part,
@@ -97,43 +92,48 @@ impl Edges {
     }
 }
 
-// Whether an id is greater than those of all entries.
-fn is_above(entries: &VecDeque<(u64, (usize, usize))>, id: u64) -> bool
-    requires { IsAscending entries.now.items }
-    ensures { MatchBool result (AreBelow entries.now.items id)
-        (AreBelow entries.now.items id → ⊥) }
+// Sets the entry at an index of the table, which grows if it is too short. Returns whether it had
+// none.
+fn put(
+    table: &mut Vec<(usize, usize)>,
+    index: usize,
+    part: (usize, usize),
+) -> Result<bool, AllocError>
+    requires { index + 1 < 2 ^ 64 }
+    ensures first { IfOk result (λ first.
+        first ≡ not (is_some (entry_part (get_or table.old.items index (1, 0))))) }
+    ensures entries { MatchResult result
+        (λ _. (other : ℕ) → get_or table.new.items other (1, 0)
+        ≡ cond (index == other) part (get_or table.old.items other (1, 0)))
+        (λ _. (other : ℕ) → get_or table.new.items other (1, 0)
+        ≡ get_or table.old.items other (1, 0)) }
 {
-    if entries.is_empty() {
-        return true;
+    if table.len() <= index {
+        table.resize(index + 1, NO_PART)?;
     }
-    entries[entries.len() - 1].0 < id
+    let is_first = entry_part(table[index]).is_none();
+    table[index] = part;
+    Ok(is_first)
 }
 
-// Whether an id is less than those of all entries.
-fn is_below(entries: &VecDeque<(u64, (usize, usize))>, id: u64) -> bool
-    requires { IsAscending entries.now.items }
-    ensures { MatchBool result (AreAbove entries.now.items id)
-        (AreAbove entries.now.items id → ⊥) }
+// Returns the part at an index, which may be past the end of the table.
+fn table_part(table: &[(usize, usize)], index: u64) -> Option<(usize, usize)>
+    ensures { result ≡ entry_part (get_or table.now index (1, 0)) }
 {
-    if entries.is_empty() {
-        return true;
+    if index < table.len() as u64 {
+        entry_part(table[index as usize])
+    } else {
+        None
     }
-    id < entries[0].0
 }
 
-// Returns the index of the entry of an id, which may be this one.
-fn find(entries: &VecDeque<(u64, (usize, usize))>, guess: usize, id: u64) -> Option<usize>
-    requires { IsAscending entries.now.items }
-    ensures { MatchOption result (lookup (λ other. other == id) entries.now.items ≡ None)
-        (λ index. (index < length entries.now.items)
-        × (lookup (λ other. other == id) entries.now.items
-        ≡ Some (get_or entries.now.items index (0, (0, 0))).1)) }
+// Returns the part of an entry.
+fn entry_part(entry: (usize, usize)) -> Option<(usize, usize)>
+    ensures { result ≡ entry_part entry }
 {
-    if guess < entries.len() && entries[guess].0 == id {
-        return Some(guess);
-    }
-    match entries.binary_search_by_key(&id, |entry| entry.0) {
-        Ok(index) => Some(index),
-        Err(_index) => None,
+    if entry.0 <= entry.1 {
+        Some(entry)
+    } else {
+        None
     }
 }

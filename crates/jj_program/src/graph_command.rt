@@ -1,12 +1,12 @@
 //! The command `graph`: reads adjacency lists, then prints the topological order, the heads or the
 //! closest common nodes of the ids of each request.
-ghost use Rattle.std.specs.Prelude.{◌≡◌, ◌≢◌, ◌↔◌, ◌<◌, ◌++◌, ℕ, All, IsTrue, List, None, Some, cond, Ok, IfOk, IfErr, OnOk, length, slice_index, string_bytes};
+ghost use Rattle.std.specs.Prelude.{◌≡◌, ◌↔◌, ◌<◌, ◌++◌, ℕ, All, IsTrue, List, None, Some, cond, Ok, IfOk, IfErr, OnOk, length, string_bytes};
 ghost use Rattle.std.specs.List.{Contains};
 ghost use Rattle.std.specs.Str.Parse.{digits_value};
 ghost use Rattle.jj_program.specs.Lines.{IsFaultOf, Agrees};
 ghost use Rattle.jj_program.specs.ListedGraphs.{named_by, shown_by};
 ghost use Rattle.jj_program.specs.GraphCommand.{GraphState, HasCycle, is_number, IsLineOfRequest, IsGraphResult, graph_state, graph_step, number_kind, numbers_line, with_node, with_request};
-ghost use Rattle.jj_program.specs.GraphViews.{ids_of, graph_request_of, graph_state_of};
+ghost use Rattle.jj_program.specs.GraphViews.{IsPlain, ids_of, graph_request_of, graph_state_of};
 
 use crate::edges::Edges;
 use crate::fault::{Fault, LineFault, StepFault};
@@ -52,19 +52,40 @@ impl<'t> Field<'t> for u64 {
 fn parse_number(text: &str) -> Option<u64>
     ensures { result ≡ cond (is_number text.now) (Some (digits_value 10 text.now)) None }
 {
-    if !is_plain(text.as_bytes()) {
+    let digits = text.as_bytes();
+    if !is_plain(digits) {
         return None;
+    }
+    if digits.len() < 20 {
+        return parse_digits(digits);
     }
     text.parse::<u64>().ok()
 }
 
-// Rejects what `u64::from_str` accepts beyond that: a leading `+` and leading zeros.
+// Parses at most 19 digits, which cannot overflow.
+fn parse_digits(digits: &[u8]) -> Option<u64>
+    requires plain { IsPlain digits.now }
+    requires short { length digits.now < 20 }
+    ensures { result ≡ cond (is_number digits.now) (Some (digits_value 10 digits.now)) None }
+{
+    let mut value = 0;
+    for byte in digits {
+        let digit = byte.wrapping_sub(b'0');
+        if digit > 9 {
+            return None;
+        }
+        value = value * 10 + digit as u64;
+    }
+    Some(value)
+}
+
+// Rejects the empty string, and what `u64::from_str` accepts beyond decimal numbers: a leading `+`
+// and leading zeros.
 fn is_plain(text: &[u8]) -> bool
-    ensures { IsTrue result ↔ ((slice_index text.now 0 ≡ 48 → length text.now < 2)
-        × (slice_index text.now 0 ≢ 43)) }
+    ensures { IsTrue result ↔ IsPlain text.now }
 {
     match text {
-        [] => true,
+        [] => false,
         [first] => *first != b'+',
         [first, ..] => *first != b'0' && *first != b'+',
     }
@@ -147,7 +168,8 @@ pub(crate) fn graph_output(alloc: Global, text: &str) -> Result<Vec<u8>, Fault>
     ensures fault { IfErr result (λ fault. IsFaultOf fault (graph_state text.now)) }
 {
     let mut reading = GraphReading {
-        edges: Edges::new(alloc),
+        // A line takes at least eight bytes or so, so that the table has room for dense ids.
+        edges: Edges::new(alloc, text.len() as u64 / 8),
         requests: Vec::new(alloc),
         ids: LineValues::new(alloc),
     };

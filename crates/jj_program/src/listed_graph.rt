@@ -36,9 +36,7 @@ impl ListedGraph {
         ensures graph { IfOk result (λ graph. shown_by graph ≡ graph_of (listed_by edges)) }
         ensures requested { IfOk result (λ graph. All (Contains (named_by graph)) requested.items) }
     {
-        let mut ids = requested;
-        ids.extend_from_slice(edges.targets())?;
-        let numbering = Numbering::new(alloc, ids)?;
+        let numbering = Numbering::new(alloc, edges.limit(), &requested, edges.targets())?;
         let targets = numbering.numbers_of(alloc, edges.targets())?;
         let parts = edges.parts_of(alloc, numbering.ids())?;
         Ok(ListedGraph {

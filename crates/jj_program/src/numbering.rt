@@ -1,8 +1,9 @@
-//! Dense numbering of ids: the number of an id is its index in the sorted list.
-ghost use Rattle.std.specs.Prelude.{◌≡◌, ◌↔◌, ◌<◌, ◌≤◌, ◌^◌, ℕ, IfOk, IfSome, IsTrue, All, length, map};
+//! Dense numbering of ids: the number of an id is its index in a sorted list, which starts with all
+//! ids below a size.
+ghost use Rattle.std.specs.Prelude.{◌≡◌, ◌↔◌, ◌<◌, ◌≤◌, ℕ, IfOk, IsTrue, OnOk, All, length, map};
 ghost use Rattle.std.specs.List.{Contains};
 ghost use Rattle.std.specs.List.Sorted.{IsStrictlyIncreasing};
-ghost use Rattle.jj_program.specs.Parts.{IsMarked, IsNumberOf, id_of};
+ghost use Rattle.jj_program.specs.Parts.{IsNumberOf, id_of};
 
 use std::alloc::{AllocError, Global};
 
@@ -10,52 +11,45 @@ use std::alloc::{AllocError, Global};
 #[derive(Drop)]
 pub(crate) struct Numbering {
     ids: Vec<u64>,
-    // The index of each id, at the id; empty for sparse ids.
-    hints: Vec<u32>,
     ghost ascending: { IsStrictlyIncreasing ids.items },
 }
 
 impl Numbering {
-    // Sorts and deduplicates the ids, in O(n) if they are dense.
-    pub(crate) fn new(alloc: Global, ids: Vec<u64>) -> Result<Numbering, AllocError>
-        ensures { IfOk result (λ numbering. All (Contains numbering.ids.items) ids.items) }
+    // Numbers these ids. Those below the limit are their own numbers, so only others are sorted.
+    pub(crate) fn new(
+        alloc: Global,
+        limit: u64,
+        requested: &[u64],
+        targets: &[u64],
+    ) -> Result<Numbering, AllocError>
+        ensures requested { IfOk result (λ numbering.
+            All (Contains numbering.ids.items) requested.now) }
+        ensures targets { IfOk result (λ numbering.
+            All (Contains numbering.ids.items) targets.now) }
     {
-        match table_size(&ids) {
-            Some(size) => {
-                let marks = marks_of(alloc, &ids, size)?;
-                Numbering::marked(alloc, &marks)
-            }
-            None => Ok(Numbering::sorted(alloc, ids)),
-        }
+        let size = size_below(limit, requested).max(size_below(limit, targets));
+        let mut others = Vec::new(alloc);
+        push_others(&mut others, size, requested)?;
+        push_others(&mut others, size, targets)?;
+        sort(&mut others);
+        Numbering::from_parts(alloc, size, &others)
     }
 
-    // Sorts and deduplicates the ids by comparisons.
-    fn sorted(alloc: Global, mut ids: Vec<u64>) -> Numbering
-        ensures { All (Contains result.ids.items) ids.items }
-    {
-        ids.sort_unstable();
-        ids.dedup();
-        Numbering {
-            ids,
-            hints: Vec::new(alloc),
-        }
-    }
-
-    // Collects the marked ids.
-    fn marked(alloc: Global, marks: &[bool]) -> Result<Numbering, AllocError>
-        requires { length marks.now ≤ 2 ^ 32 }
-        ensures { IfOk result (λ numbering. (id : ℕ) → IsMarked marks.now id
+    // Joins all ids below a size and a sorted list of others.
+    fn from_parts(alloc: Global, size: u64, others: &[u64]) -> Result<Numbering, AllocError>
+        requires ascending { IsStrictlyIncreasing others.now }
+        requires above { All (λ id. size ≤ id) others.now }
+        ensures below { IfOk result (λ numbering. (id : ℕ) → id < size
+            → Contains numbering.ids.items id) }
+        ensures others { IfOk result (λ numbering. (id : ℕ) → Contains others.now id
             → Contains numbering.ids.items id) }
     {
-        let mut ids = Vec::new(alloc);
-        let mut hints = Vec::with_capacity(alloc, marks.len())?;
-        for id in 0..marks.len() {
-            hints.push(ids.len() as u32)?;
-            if marks[id] {
-                ids.push(id as u64)?;
-            }
+        let mut ids = Vec::with_capacity(alloc, (size as usize).saturating_add(others.len()))?;
+        for id in 0..size {
+            ids.push(id)?;
         }
-        Ok(Numbering { ids, hints })
+        ids.extend_from_slice(others)?;
+        Ok(Numbering { ids })
     }
 
     pub(crate) fn ids(&self) -> &[u64]
@@ -93,14 +87,14 @@ impl Numbering {
         Ok(ids)
     }
 
-    // Returns the index of an id, which is looked for at its hint and beside the index `near`
+    // Returns the index of an id, which is looked for at the id itself and beside the index `near`
     // first; unspecified for an id that is not in the list.
     fn number(&self, near: usize, id: u64) -> usize
         ensures { Contains self.now.ids.items id → IsNumberOf self.now.ids.items id result }
     {
-        let hint = self.hint(id);
-        if self.is_number(hint, id) {
-            return hint;
+        let own = id as usize;
+        if self.is_number(own, id) {
+            return own;
         }
         let next = near.wrapping_add(1);
         if self.is_number(next, id) {
@@ -119,15 +113,6 @@ impl Numbering {
         }
     }
 
-    // Returns the index of an id if the ids are dense, and else any number.
-    fn hint(&self, id: u64) -> usize {
-        if id < self.hints.len() as u64 {
-            self.hints[id as usize] as usize
-        } else {
-            0
-        }
-    }
-
     // Whether the id is at this index.
     fn is_number(&self, index: usize, id: u64) -> bool
         ensures { IsTrue result ↔ IsNumberOf self.now.ids.items id index }
@@ -136,32 +121,58 @@ impl Numbering {
     }
 }
 
-// Returns the size of a table that has an entry for each id, unless it would be much longer than
-// the list.
-fn table_size(ids: &[u64]) -> Option<usize>
-    ensures above { IfSome result (λ size. All (λ id. id < size) ids.now) }
-    ensures small { IfSome result (λ size. size ≤ 2 ^ 32) }
-{
-    let limit = ids.len().saturating_mul(4).saturating_add(64).min(1 << 32) as u64;
+// Returns a size above all of these ids that are below the limit.
+fn size_below(limit: u64, ids: &[u64]) -> u64 {
     let mut size = 0;
     for id in ids {
-        if *id >= limit {
-            return None;
+        if *id < limit {
+            size = size.max(*id + 1);
         }
-        size = size.max(*id as usize + 1);
     }
-    Some(size)
+    size
 }
 
-// Marks each id in a table of this size.
-fn marks_of(alloc: Global, ids: &[u64], size: usize) -> Result<Vec<bool>, AllocError>
-    requires { All (λ id. id < size) ids.now }
-    ensures marked { IfOk result (λ marks. All (IsMarked marks.items) ids.now) }
-    ensures size { IfOk result (λ marks. length marks.items ≡ size) }
+// Sorts the ids, and removes duplicates.
+fn sort(ids: &mut Vec<u64>)
+    ensures ascending { IsStrictlyIncreasing ids.new.items }
+    ensures same { (id : ℕ) → Contains ids.new.items id ↔ Contains ids.old.items id }
 {
-    let mut marks = vec![in alloc; false; size]?;
+    ids.sort_unstable();
+    ids.dedup();
+}
+
+// Appends the ids that are not below a size, mostly without duplicates.
+fn push_others(others: &mut Vec<u64>, size: u64, ids: &[u64]) -> Result<(), AllocError>
+    requires { All (λ id. size ≤ id) others.old.items }
+    ensures above { OnOk result (All (λ id. size ≤ id) others.new.items) }
+    ensures kept { OnOk result ((id : ℕ) → Contains others.old.items id
+        → Contains others.new.items id) }
+    ensures pushed { OnOk result (All (λ id. size ≤ id → Contains others.new.items id) ids.now) }
+{
     for id in ids {
-        marks[*id as usize] = true;
+        push_other(others, size, *id)?;
     }
-    Ok(marks)
+    Ok(())
+}
+
+// Appends an id unless it is below a size or the last one again.
+fn push_other(others: &mut Vec<u64>, size: u64, id: u64) -> Result<(), AllocError>
+    requires { All (λ other. size ≤ other) others.old.items }
+    ensures above { OnOk result (All (λ other. size ≤ other) others.new.items) }
+    ensures kept { OnOk result ((other : ℕ) → Contains others.old.items other
+        → Contains others.new.items other) }
+    ensures pushed { OnOk result (size ≤ id → Contains others.new.items id) }
+{
+    if id < size || is_last(others, id) {
+        return Ok(());
+    }
+    others.push(id)?;
+    Ok(())
+}
+
+// Whether the id is the last of the list.
+fn is_last(ids: &[u64], id: u64) -> bool
+    ensures { IsTrue result → Contains ids.now id }
+{
+    !ids.is_empty() && ids[ids.len() - 1] == id
 }
