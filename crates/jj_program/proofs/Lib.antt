@@ -10,7 +10,8 @@ pub mod TextMerges
 pub mod TextKeys
 pub mod SortedSides
 pub mod SideDecisions
-pub mod NeighborPairs
+pub mod SideCounts
+pub mod PairedTerms
 pub mod CountedValues
 pub mod CountDecisions
 pub mod ShortMerges

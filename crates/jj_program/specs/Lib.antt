@@ -6,6 +6,7 @@ pub mod MergeCommand
 pub mod MergeViews
 pub mod TextKeys
 pub mod ValueCounts
+pub mod PairedTerms
 pub mod GraphCommand
 pub mod Parts
 pub mod GraphViews

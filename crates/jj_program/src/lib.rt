@@ -15,6 +15,7 @@ mod listed_graph;
 mod merge_command;
 mod merge_counts;
 mod merge_outcome;
+mod merge_pairs;
 mod numbering;
 pub mod program;
 mod text_sort;

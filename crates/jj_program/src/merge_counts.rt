@@ -29,7 +29,7 @@ pub(crate) struct ValueCount<'t> {
 
 // Counts the adds and removes of each value. Returns `None` if there are too many values, or too
 // many share hints.
-pub(crate) fn counted<'t>(
+pub(crate) fn count_values<'t>(
     alloc: Global,
     terms: &[&'t str],
 ) -> Result<Option<Vec<ValueCount<'t>>>, AllocError>
@@ -80,11 +80,11 @@ fn compared_after(compared: usize, near: usize, at: usize) -> usize {
     }
 }
 
-// Hashes a few bytes of the string to a hint.
-fn hint_of(text: &str) -> usize
+// Hashes a few bytes of a value to a hint.
+fn hint_of(value: &str) -> usize
     ensures { result < HINTS }
 {
-    let bytes = text.as_bytes();
+    let bytes = value.as_bytes();
     let len = bytes.len();
     if len == 0 {
         return 0;
@@ -104,13 +104,13 @@ fn hint_of(text: &str) -> usize
 fn index_of<'t>(
     counts: &mut Vec<ValueCount<'t>>,
     near: usize,
-    text: &'t str,
+    value: &'t str,
 ) -> Result<Option<usize>, AllocError>
-    ensures at { IfOk result (λ found. IfSome found (IsValueAt counts.new.items text.now)) }
+    ensures at { IfOk result (λ found. IfSome found (IsValueAt counts.new.items value.now)) }
     ensures same { IfOk result (λ found. IfSome found (λ at. (terms : List Text)
         → AreCountsOf terms counts.old.items → AreCountsOf terms counts.new.items)) }
 {
-    if let Some(at) = find(counts, near, text) {
+    if let Some(at) = find(counts, near, value) {
         return Ok(Some(at));
     }
     let at = counts.len();
@@ -118,7 +118,7 @@ fn index_of<'t>(
         return Ok(None);
     }
     counts.push(ValueCount {
-        text,
+        text: value,
         adds: 0,
         removes: 0,
     })?;
@@ -126,15 +126,15 @@ fn index_of<'t>(
 }
 
 // Returns the index of a value, which is looked for at `near` first.
-fn find(counts: &[ValueCount<'_>], near: usize, text: &str) -> Option<usize>
-    ensures found { IfSome result (IsValueAt counts.now text.now) }
-    ensures missing { IfNone result (HasNoValue counts.now text.now) }
+fn find(counts: &[ValueCount<'_>], near: usize, value: &str) -> Option<usize>
+    ensures found { IfSome result (IsValueAt counts.now value.now) }
+    ensures missing { IfNone result (HasNoValue counts.now value.now) }
 {
-    if near < counts.len() && counts[near].text == text {
+    if near < counts.len() && counts[near].text == value {
         return Some(near);
     }
     for at in 0..counts.len() {
-        if counts[at].text == text {
+        if counts[at].text == value {
             return Some(at);
         }
     }

@@ -1,15 +1,15 @@
-//! Trivial resolution of a merge of strings in O(n log n), or O(n) for few distinct values: cancels
-//! adds with equal removes by merging their sorted lists.
-ghost use Rattle.std.specs.Prelude.{◌≡◌, ◌+◌, ◌∷◌, ◌<◌, ◌%◌, ◌⊎◌, [], ℕ, List, IfOk, OnOk, IsTrue, None, cond, count_by, length};
+//! Trivial resolution of a merge of strings in O(n log n), or O(n) for few distinct values or few
+//! that do not cancel: cancels adds with equal removes by hints, then by merging sorted lists.
+ghost use Rattle.std.specs.Prelude.{◌≡◌, ◌+◌, ◌<◌, ◌⊎◌, IfOk, IsTrue, None, cond, count_by, length};
 ghost use Rattle.std.specs.Str.{bytes_eq};
 ghost use Rattle.std.specs.List.Sorted.{IsSorted};
 ghost use Rattle.jj_merges.specs.Merge.{IsOdd};
 ghost use Rattle.jj_merges.specs.Merge as merge;
-ghost use Rattle.jj_program.specs.Lines.{Text};
-ghost use Rattle.jj_program.specs.MergeViews.{text_eq, text_cmp, is_other, HaveCountsOf, IsTextOutcome, ResolvesSides, IsUnmatched, IsMatched};
+ghost use Rattle.jj_program.specs.MergeViews.{text_eq, text_cmp, is_other, IsTextOutcome, ResolvesSides, IsUnmatched, IsMatched};
 
-use crate::merge_counts::{counted, outcome_of_counts};
-use crate::text_sort::sort_texts;
+use crate::merge_counts::{count_values, outcome_of_counts};
+use crate::merge_pairs::cancel_pairs;
+use crate::text_sort::sort_strings;
 use jj_merges::merge::{SameChange, trivial_merge};
 use std::alloc::{AllocError, Global};
 use std::cmp::Ordering;
@@ -30,18 +30,18 @@ pub(crate) fn outcome<'t>(
     if terms.len() < MANY_TERMS {
         return Ok(outcome_of_terms(terms, same_change));
     }
-    if let Some(counts) = counted(alloc, terms)? {
+    if let Some(counts) = count_values(alloc, terms)? {
         return Ok(outcome_of_counts(&counts, same_change));
     }
     if conflicts_at_start(terms, same_change) {
         return Ok(None);
     }
-    let (adds, removes) = without_neighbors(alloc, terms)?;
+    let (adds, removes) = cancel_pairs(alloc, terms)?;
     let mut adds = adds;
     let mut removes = removes;
     let mut entries = Vec::with_capacity(alloc, adds.len())?;
-    sort_texts(&mut entries, &mut adds)?;
-    sort_texts(&mut entries, &mut removes)?;
+    sort_strings(&mut entries, &mut adds)?;
+    sort_strings(&mut entries, &mut removes)?;
     Ok(outcome_of_sides(&adds, &removes, same_change))
 }
 
@@ -78,16 +78,16 @@ fn conflicts_at_start(terms: &[&str], same_change: SameChange) -> bool
     next_removes < next_adds
 }
 
-// Counts the adds and the removes that are equal to a string.
-fn count_of(terms: &[&str], text: &str) -> (usize, usize)
-    ensures adds { result.0 ≡ count_by (text_eq text.entry) (merge.adds terms.now) }
-    ensures removes { result.1 ≡ count_by (text_eq text.entry) (merge.removes terms.now) }
+// Counts the adds and the removes that are equal to a value.
+fn count_of(terms: &[&str], value: &str) -> (usize, usize)
+    ensures adds { result.0 ≡ count_by (text_eq value.entry) (merge.adds terms.now) }
+    ensures removes { result.1 ≡ count_by (text_eq value.entry) (merge.removes terms.now) }
 {
     let mut adds = 0;
     let mut removes = 0;
     let mut index = 0;
     while index < terms.len() {
-        let equal = one_if_equal(text, terms[index]);
+        let equal = one_if_equal(value, terms[index]);
         if index % 2 == 0 {
             adds += equal;
         } else {
@@ -99,57 +99,10 @@ fn count_of(terms: &[&str], text: &str) -> (usize, usize)
 }
 
 // Returns 1 for equal strings, else 0.
-fn one_if_equal(text: &str, other: &str) -> usize
-    ensures { result ≡ cond (bytes_eq text.now other.now) 1 0 }
+fn one_if_equal(value: &str, other: &str) -> usize
+    ensures { result ≡ cond (bytes_eq value.now other.now) 1 0 }
 {
-    if text == other { 1 } else { 0 }
-}
-
-// Returns the adds and the removes, without pairs of terms that are equal neighbors or become
-// neighbors when the terms between them cancel. `[x, a, a, b, b]` leaves only `x`, in O(n).
-fn without_neighbors<'t>(
-    alloc: Global,
-    terms: &[&'t str],
-) -> Result<(Vec<&'t str>, Vec<&'t str>), AllocError>
-    ensures counts { IfOk result (λ left. HaveCountsOf left.0.items left.1.items
-        (merge.adds terms.now) (merge.removes terms.now)) }
-    ensures lengths { IfOk result (λ left. length left.0.items
-        ≡ length left.1.items + length terms.now % 2) }
-{
-    let mut adds = Vec::with_capacity(alloc, terms.len() / 2 + 1)?;
-    let mut removes = Vec::with_capacity(alloc, terms.len() / 2)?;
-    let mut index = 0;
-    while index < terms.len() {
-        let term = terms[index];
-        if index % 2 == 0 {
-            cancel_or_push(&mut adds, &mut removes, term)?;
-        } else {
-            cancel_or_push(&mut removes, &mut adds, term)?;
-        }
-        index += 1;
-    }
-    Ok((adds, removes))
-}
-
-// Cancels a term with the last one of the other side if they are equal, else appends it to its own.
-fn cancel_or_push<'t>(
-    own: &mut Vec<&'t str>,
-    other: &mut Vec<&'t str>,
-    term: &'t str,
-) -> Result<(), AllocError>
-    ensures counts { OnOk result ((v : Text) → count_by (text_eq v) own.new.items
-        + count_by (text_eq v) other.old.items ≡ count_by (text_eq v) own.old.items
-        + count_by (text_eq v) other.new.items + count_by (text_eq v) (term.entry ∷ [])) }
-    ensures lengths { OnOk result (length own.new.items + length other.old.items
-        ≡ length own.old.items + length other.new.items + 1) }
-{
-    let count = other.len();
-    if count > 0 && other[count - 1] == term {
-        other.truncate(count - 1);
-        return Ok(());
-    }
-    own.push(term)?;
-    Ok(())
+    if value == other { 1 } else { 0 }
 }
 
 // Resolves the merges with the signed counts of these sides, which are sorted and one more adds
@@ -211,12 +164,12 @@ fn compare_heads(adds: &[&str], i: usize, removes: &[&str], j: usize) -> Orderin
     adds[i].cmp(removes[j])
 }
 
-// Whether another value than `text` was found.
-fn is_other(found: Option<&str>, text: &str) -> bool
-    ensures { result ≡ is_other found.entry text.now }
+// Whether a value was found that differs from this one.
+fn is_other(found: Option<&str>, value: &str) -> bool
+    ensures { result ≡ is_other found.entry value.now }
 {
     match found {
-        Some(value) => value != text,
+        Some(other) => other != value,
         None => false,
     }
 }

@@ -4,7 +4,7 @@ use Rattle.std.proofs.lemmas.List.{take_all}
 use Rattle.jj_merges.specs.Merge as merge
 use Rattle.jj_program.specs.Lines.{Text}
 use Rattle.jj_program.specs.MergeViews.{text_eq}
-use Rattle.jj_program.proofs.NeighborPairs.{adds_even, adds_odd, removes_even, removes_odd}
+use Rattle.jj_program.proofs.SideCounts.{adds_even, adds_odd, removes_even, removes_odd}
 use Rattle.jj_program.proofs.merge_outcome.count_of.Goals as goal
 use Rattle.jj_program.proofs.merge_outcome.count_of.Goals.{then-index-eq0, else-index-eq0}
 
@@ -18,7 +18,7 @@ at_most_one false = omega arith
 
 pub loop-index-preserved : goal.loop-index-preserved
 loop-index-preserved c =
-    let v = c.args.text in
+    let v = c.args.value in
     let xs = c.args.terms.now in
     let i = c.loop-index.index in
     let x = get_or xs i no_text in
@@ -44,8 +44,8 @@ loop-index-preserved c =
 
 pub returns-clause-adds : goal.returns-clause-adds
 returns-clause-adds c =
-    c.loop-index.invariant.adds ∙ ap (λ xs. count_by (text_eq c.args.text) (merge.adds xs)) (take_all c.loop-index.index c.args.terms.now (omega arith))
+    c.loop-index.invariant.adds ∙ ap (λ xs. count_by (text_eq c.args.value) (merge.adds xs)) (take_all c.loop-index.index c.args.terms.now (omega arith))
 
 pub returns-clause-removes : goal.returns-clause-removes
 returns-clause-removes c =
-    c.loop-index.invariant.removes ∙ ap (λ xs. count_by (text_eq c.args.text) (merge.removes xs)) (take_all c.loop-index.index c.args.terms.now (omega arith))
+    c.loop-index.invariant.removes ∙ ap (λ xs. count_by (text_eq c.args.value) (merge.removes xs)) (take_all c.loop-index.index c.args.terms.now (omega arith))

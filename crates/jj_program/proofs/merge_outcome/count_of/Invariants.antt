@@ -7,8 +7,8 @@ use Rattle.jj_program.proofs.merge_outcome.count_of.Given as goal
 
 abbrev pub invariant-loop-index : goal.invariant-loop-index
 invariant-loop-index l = record {
-  adds : l.adds ≡ count_by (λ (x : Text). bytes_eq l.text x.now) (merge.adds (take l.index l.terms));
-  removes : l.removes ≡ count_by (λ (x : Text). bytes_eq l.text x.now) (merge.removes (take l.index l.terms));
+  adds : l.adds ≡ count_by (λ (x : Text). bytes_eq l.value x.now) (merge.adds (take l.index l.terms));
+  removes : l.removes ≡ count_by (λ (x : Text). bytes_eq l.value x.now) (merge.removes (take l.index l.terms));
   few_adds : l.adds ≤ l.index;
   few_removes : l.removes ≤ l.index;
   within : l.index ≤ length l.terms;

@@ -3,5 +3,5 @@ use Rattle.std.proofs.Common.{◌≡◌, All, map, take}
 use Rattle.jj_program.specs.TextKeys.{IsEntry, text_of}
 use Rattle.jj_program.proofs.text_sort.list_entries.Given as goal
 
-abbrev pub invariant-loop-text : goal.invariant-loop-text
-invariant-loop-text l = (map text_of l.entries.items ≡ take l.text-index l.texts) × All IsEntry l.entries.items
+abbrev pub invariant-loop-string : goal.invariant-loop-string
+invariant-loop-string l = (map text_of l.entries.items ≡ take l.string-index l.strings) × All IsEntry l.entries.items

@@ -6,9 +6,9 @@ use Rattle.jj_program.specs.MergeViews.{text_eq}
 use Rattle.jj_program.specs.ValueCounts.{AreCountsOf, IsValueAt}
 use Rattle.jj_program.specs.declared.merge_counts.ValueCount.{ValueCount}
 use Rattle.jj_program.proofs.CountedValues.{counts_more, counts_within, none_more}
-use Rattle.jj_program.proofs.NeighborPairs.{adds_even, adds_odd, removes_even, removes_odd}
-use Rattle.jj_program.proofs.merge_counts.counted.Goals as goal
-use Rattle.jj_program.proofs.merge_counts.counted.Goals.{then-index-eq0, else-index-eq0}
+use Rattle.jj_program.proofs.SideCounts.{adds_even, adds_odd, removes_even, removes_odd}
+use Rattle.jj_program.proofs.merge_counts.count_values.Goals as goal
+use Rattle.jj_program.proofs.merge_counts.count_values.Goals.{then-index-eq0, else-index-eq0}
 
 -- the default value out of range
 abbrev no_text : Text

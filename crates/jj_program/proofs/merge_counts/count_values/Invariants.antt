@@ -1,6 +1,6 @@
 use Rattle.std.proofs.Common.{◌≡◌, ◌-◌, ◌≤◌, length, take}
 use Rattle.jj_program.specs.ValueCounts.{AreCountsOf}
-use Rattle.jj_program.proofs.merge_counts.counted.Given as goal
+use Rattle.jj_program.proofs.merge_counts.count_values.Given as goal
 
 abbrev pub invariant-loop-index : goal.invariant-loop-index
 invariant-loop-index l = record {
