@@ -15,6 +15,13 @@ pub mod PairedTerms
 pub mod CountedValues
 pub mod CountDecisions
 pub mod ShortMerges
+pub mod ClassedTerms
+pub mod LeftPositions
+pub mod LeftSides
+pub mod FirstRemoves
+pub mod CancelSteps
+pub mod CancelTerms
+pub mod LeftTerms
 pub mod Inputs
 pub mod SamePaths
 pub mod UniqueTrees

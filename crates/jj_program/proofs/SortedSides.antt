@@ -189,7 +189,7 @@ none_counted p (x ∷ xs) d none =
     let first : cond (p x) 1 0 ≡ 0 = ap (λ (t : Bool). let n : ℕ = cond t 1 0 in n) (none 0 (omega arith)) in
     omega (arith, sum_by-cons (λ y. cond (p y) 1 0) x xs, first, none_counted p xs d (λ k within. none (suc k) (omega arith)))
 
-text_order : IsStrictWeakOrder (λ x y. is_lt (text_cmp x y))
+pub text_order : IsStrictWeakOrder (λ x y. is_lt (text_cmp x y))
 text_order = ranks_by nat_list_cmp_total (λ (text : Text). text.now)
 
 -- a string below the first of a sorted rest is not among the rest
@@ -207,7 +207,7 @@ below_rest x ys j d up less = none_counted (text_eq x) (drop j ys) d (λ k withi
         let below : is_lt (text_cmp (get_or ys (j + k) d) z) ≡ true = ap (λ (b : List ℕ). is_lt (slice_cmp nat_cmp b z.now)) (sym bytes) ∙ ap is_lt less in
         absurd (false≢true (sym not_below ∙ below))
 
-same_bytes : (xs ys : List ℕ) → slice_cmp nat_cmp xs ys ≡ Equal → xs ≡ ys
+pub same_bytes : (xs ys : List ℕ) → slice_cmp nat_cmp xs ys ≡ Equal → xs ≡ ys
 same_bytes [] [] h = refl
 same_bytes [] (y ∷ ys) h = cc
 same_bytes (x ∷ xs) [] h = cc

@@ -1,5 +1,5 @@
 -- The order of keys is that of strings, as far as it goes.
-use Rattle.std.proofs.Common.{◌≡◌, ◌∙◌, ℕ, zero, suc, ◌+◌, ◌*◌, ◌<◌, ◌≤◌, true, false, List, [], ◌∷◌, All, arith, ap, subst, sym, refl, get_or, drop, drop-cons, add-one, map, length, ◌⊎◌, inl, inr, ⊎_elim, true≢false}
+use Rattle.std.proofs.Common.{◌≡◌, ◌∙◌, ℕ, zero, suc, ◌+◌, ◌*◌, ◌<◌, ◌≤◌, false, List, [], ◌∷◌, All, arith, ap, subst, sym, refl, get_or, drop, drop-cons, add-one, map, length, ◌⊎◌, inl, inr, ⊎_elim, true≢false}
 use Rattle.std.proofs.lemmas.Bool.{cases_lt}
 use Rattle.std.proofs.lemmas.Cmp.{ranked}
 use Rattle.std.proofs.lemmas.List.Elements.{All-get_or}
@@ -70,7 +70,7 @@ key_not_greater k (suc n) (x ∷ xs) (y ∷ ys) are h = ⊎_elim
     (compared x y (slice_cmp nat_cmp xs ys) h)
 
 -- entries that are in order have their strings in order
-ordered : (x y : ℕ × Text) → IsEntry x → IsEntry y → is_lt (ordering_then (nat_cmp x.0 y.0) (text_cmp x.1 y.1)) ≡ false → is_lt (text_cmp x.1 y.1) ≡ false
+pub ordered : (x y : ℕ × Text) → IsEntry x → IsEntry y → is_lt (ordering_then (nat_cmp x.0 y.0) (text_cmp x.1 y.1)) ≡ false → is_lt (text_cmp x.1 y.1) ≡ false
 ordered x y is_x is_y h = by (nat_cmp x.0 y.0) (text_cmp x.1 y.1) refl refl h
   where
     by : (c o : Ordering) → c ≡ nat_cmp x.0 y.0 → o ≡ text_cmp x.1 y.1 → is_lt (ordering_then c o) ≡ false → is_lt o ≡ false

@@ -1,8 +1,8 @@
 -- Merges of borrowed strings behave as merges of their bytes.
 use Rattle.std.proofs.Common.{◌≡◌, ◌∙◌, ℕ, ◌+◌, Bool, List, [], ◌∷◌, Option, Some, None, cond, length, refl, sym, ap, subst}
-use Rattle.std.specs.Prelude.{pos, ◌-ℤ◌, ◌<ℤ◌, codes, count_by, slice_get}
+use Rattle.std.specs.Prelude.{pos, ◌-ℤ◌, ◌<ℤ◌, count_by, slice_get}
 use Rattle.std.specs.Str.{bytes_eq}
-use Rattle.std.specs.List.{AllZip, Contains, cons_option}
+use Rattle.std.specs.List.{Contains, cons_option}
 use Rattle.std.specs.Option.{option_map}
 use Rattle.std.proofs.lemmas.List.Folds.{fold-map}
 use Rattle.std.proofs.lemmas.Option.{slice_get-map}
@@ -14,8 +14,8 @@ use Rattle.jj_merges.specs.Resolution.{ResolvesTo}
 use Rattle.jj_merges.specs.Simplify.{equal_at, cancel_from, split_indices, simplified_indices, at_indices}
 use Rattle.jj_merges.proofs.Cancellation.{equal_options, simplified_sides}
 use Rattle.jj_program.specs.declared.merge_command.MergeForm.{MergeForm}
-use Rattle.jj_program.specs.declared.merge_command.MergeForm.TheVariants.{Simplify, Resolve}
-use Rattle.jj_program.specs.Lines.{line_text, Text, texts_of}
+use Rattle.jj_program.specs.declared.merge_command.MergeForm.TheVariants.{Resolve}
+use Rattle.jj_program.specs.Lines.{Text, texts_of}
 use Rattle.jj_program.proofs.DecidedTerms.{decided_stands}
 use Rattle.jj_program.specs.MergeCommand.{outcome_line, IsMergeLine}
 use Rattle.jj_program.specs.MergeViews.{text_eq, IsTextOutcome}
@@ -96,16 +96,10 @@ at_indices-bytes m (p ∷ ps) =
     let rest = at_indices-bytes m ps in
     (λ i. cons_option (at_p i) (rest i)) ∙ cons-bytes (slice_get m p) (at_indices m ps)
 
-same_texts : (xs ys : List Text) → AllZip (λ x y. y ≡ x) xs ys → texts_of ys ≡ texts_of xs
-same_texts [] [] h = refl
-same_texts [] (y ∷ ys) h = absurd h
-same_texts (x ∷ xs) [] h = absurd h
-same_texts (x ∷ xs) (y ∷ ys) h = let first : y.now ≡ x.now = ap (λ (text : Text). text.now) h.0 in let rest = same_texts xs ys h.1 in λ i. (first i) ∷ (rest i)
-
 -- the bytes of a simplified merge
-pub left_bytes : (m left : List Text) → AllZip (λ x y. y ≡ x) (at_indices m (simplified_indices text_eq m)) left → texts_of left ≡ at_indices (texts_of m) (simplified_indices bytes_eq (texts_of m))
+pub left_bytes : (m left : List Text) → left ≡ at_indices m (simplified_indices text_eq m) → texts_of left ≡ at_indices (texts_of m) (simplified_indices bytes_eq (texts_of m))
 left_bytes m left h =
-    same_texts (at_indices m (simplified_indices text_eq m)) left h
+    ap texts_of h
     ∙ sym (at_indices-bytes m (simplified_indices text_eq m))
     ∙ ap (at_indices (texts_of m)) (sym (simplified_indices-bytes m))
 
@@ -113,12 +107,6 @@ member_bytes : (same_change : SameChange) (m : List Text) (v : Text)
     → ResolvesTo text_eq same_change m v → Contains (texts_of m) v.now
 member_bytes same_change m v decided =
     decided_stands same_change (texts_of m) v.now (decided_bytes same_change m v decided)
-
--- the simplified merge is the result of `simplify`
-pub line_of_simplify : (form : MergeForm) (m left : List Text) → form ≡ Simplify → AllZip (λ x y. y ≡ x) (at_indices m (simplified_indices text_eq m)) left
-    → IsMergeLine (form, texts_of m) (line_text (codes "terms") (texts_of left))
-line_of_simplify form m left requested kept =
-    subst (λ q. IsMergeLine (q, texts_of m) (line_text (codes "terms") (texts_of left))) (sym requested) (ap (line_text (codes "terms")) (left_bytes m left kept))
 
 -- the resolved string, if any, is the result of `keep` and `accept`
 pub line_of_outcome : (form : MergeForm) (same_change : SameChange) (m : List Text)

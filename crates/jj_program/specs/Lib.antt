@@ -5,6 +5,8 @@ pub mod SetCode
 pub mod MergeCommand
 pub mod MergeViews
 pub mod TextKeys
+pub mod TermClasses
+pub mod MergeSimplify
 pub mod ValueCounts
 pub mod PairedTerms
 pub mod GraphCommand

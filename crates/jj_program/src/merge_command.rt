@@ -9,6 +9,7 @@ use crate::fault::{Fault, StepFault};
 use crate::forms::{Shape, form_line};
 use crate::lines::{push_line, split_line};
 use crate::merge_outcome::outcome;
+use crate::merge_simplify::simplified_terms;
 use jj_merges::merge::{Merge, MergeBuilder, SameChange};
 use std::alloc::{AllocError, Global};
 
@@ -139,8 +140,8 @@ fn push_simplified(alloc: Global, output: &mut Vec<u8>, terms: &[&str]) -> Resul
             }
         }
         _ => {
-            let left = merge_of(alloc, terms)?.simplify(alloc)?;
-            push_line(output, "terms", left.as_slice())
+            let left = simplified_terms(alloc, terms)?;
+            push_line(output, "terms", &left)
         }
     }
 }

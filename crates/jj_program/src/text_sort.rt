@@ -50,7 +50,7 @@ fn list_strings<'t>(
 }
 
 // Returns the first eight bytes as a big-endian number. Missing bytes are 0.
-fn key_of(bytes: &[u8]) -> u64
+pub(crate) fn key_of(bytes: &[u8]) -> u64
     ensures { IsKeyOf bytes.now result }
 {
     let mut key = byte_at(bytes, 0);

@@ -1,15 +1,12 @@
-use Rattle.std.proofs.Common.{◌≡◌, ◌∙◌, ◌++◌, ℕ, List, [], ◌∷◌, Result, ap, arith, get_or, refl, subst, sym}
+use Rattle.std.proofs.Common.{◌≡◌, ◌∙◌, ◌++◌, ℕ, List, [], ◌∷◌, Result, ap, arith, get_or, sym}
 use Rattle.std.specs.Prelude.{codes, OnOk}
-use Rattle.std.specs.List.{AllZip}
 use Rattle.std.specs.declared.alloc.AllocError.{AllocError}
 use Rattle.std.proofs.lemmas.Result.{IfOk-weaker}
-use Rattle.jj_merges.specs.Simplify.{at_indices, simplified_indices}
 use Rattle.jj_program.specs.Lines.{Text, line_text, texts_of}
 use Rattle.jj_program.specs.MergeCommand.{IsMergeLine}
-use Rattle.jj_program.specs.MergeViews.{text_eq}
 use Rattle.jj_program.specs.declared.merge_command.MergeForm.TheVariants.{Simplify}
 use Rattle.jj_program.proofs.ShortMerges.{all_left, first_left, last_left, one_left, simplified}
-use Rattle.jj_program.proofs.TextMerges.{line_of_simplify}
+use Rattle.jj_program.proofs.TextMerges.{left_bytes}
 use Rattle.jj_program.proofs.merge_command.push_simplified.Goals as goal
 
 -- the default value out of range
@@ -52,10 +49,5 @@ returns-else-eq-2 c =
 pub returns-in_ok-left-in_default : goal.returns-in_ok-left-in_default
 returns-in_ok-left-in_default c =
     let terms = c.args.terms.now in
-    let old = c.args.output.now.items in
-    let left = c.in_ok-left-in_default.left in
-    let answered = line_of_simplify Simplify terms left refl
-    (subst (λ m. AllZip (λ x y. y ≡ x) (at_indices m (simplified_indices text_eq m)) left) c.in_ok-merge_of-in_default.ensures c.in_ok-left-in_default.ensures.terms) in
-    IfOk-weaker c.push_line-in_default.result (λ _. c.push_line-in_default.new.output.items ≡ old ++ line_text (codes "terms") (texts_of c.as_slice.result.now))
-    (λ _. (answer : List ℕ) × IsMergeLine (Simplify, texts_of terms) answer × (c.push_line-in_default.new.output.items ≡ old ++ answer))
-    (λ done written. (line_text (codes "terms") (texts_of left), answered, written ∙ ap (λ terms. old ++ line_text (codes "terms") (texts_of terms)) c.as_slice.ensures.terms)) c.push_line-in_default.ensures
+    line_of c.push_line-in_default.result terms c.deref.result.now c.args.output.now.items c.push_line-in_default.new.output.items
+    (ap texts_of c.deref.ensures.value ∙ left_bytes terms c.in_ok-left-in_default.left.items c.in_ok-left-in_default.ensures) c.push_line-in_default.ensures
