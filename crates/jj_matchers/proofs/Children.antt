@@ -16,6 +16,7 @@ use Rattle.jj_matchers.specs.Marks.{child_satisfies, any_child, children_spec}
 use Rattle.jj_matchers.specs.Visits.{is_among, sets_spec}
 use Rattle.jj_paths.proofs.PathOrders.{name_cmp-itself, less_from_is_lt}
 use Rattle.jj_matchers.proofs.PathLists.{any_implies}
+use Rattle.jj_matchers.proofs.SortedNames.{named_next}
 
 -- whether a child with this name satisfies a predicate
 abbrev pub any_named : (Tree Bool → Bool) → Name → List (Name × Tree Bool) → Bool
@@ -88,3 +89,10 @@ none_left test name before all left e whole = or_none before ∙ ap (λ l. befor
     or_none : (b : Bool) → b ≡ (b || false)
     or_none true = refl
     or_none false = refl
+
+-- one child moves from those left to those so far
+pub add_next : (test : Tree Bool → Bool) (name : Name) (before after all : Bool) (node : Name × Tree Bool) (left later : List (Name × Tree Bool)) → left ≡ node ∷ later → after ≡ (bytes_eq name node.0 && test node.1 || before)
+    → (before || any_named test name left) ≡ all → (after || any_named test name later) ≡ all
+add_next test name before after all node left later next adds whole =
+    ap (λ t. t || any_named test name later) adds
+    ∙ named_next (bytes_eq name node.0 && test node.1) before (any_named test name later) all (ap (λ l. before || any_named test name l) (sym next) ∙ whole)

@@ -16,6 +16,7 @@ pub mod LinkedPatterns
 pub mod FoundMarks
 pub mod AcceptedPaths
 pub mod EmptyVisits
+pub mod SortedNames
 pub mod Singles
 mod PathSpans
 mod ExistingTrees

@@ -16,7 +16,7 @@ use Rattle.std.proofs.Math.ListN.{get_or-map}
 use Rattle.jj_paths.specs.declared.repo_path.RepoPath.{RepoPath}
 use Rattle.jj_paths.proofs.PathOrders.{before_below, sorted-append, sorted-cons, sorted_none}
 use Rattle.jj_matchers.specs.VisitSpecs.{VisitSpec, IsSound, all_recursively, specific, nothing}
-use Rattle.jj_matchers.specs.Visits.{visit_spec}
+use Rattle.jj_matchers.specs.SortedVisits.{sorted_visit_spec}
 use Rattle.jj_matchers.specs.Walk.{AreInOrder, is_entered, path_if, walk_enters}
 use Rattle.jj_matchers.specs.WalkInvariants.{DeterminesWalk}
 use Rattle.jj_matchers.specs.MarkWalkInvariants.{DecidesFile, IsAboveMark, IsAtOrAbove, IsClosed, IsCutTo, IsFresh, IsFull, IsOnWay, IsOpenAt, IsValidOpen, WalkedMarks, dir_of, is_found, top}
@@ -72,7 +72,7 @@ module _ (accepts opens : Path → Bool) (visit : Path → VisitSpec) where
   module _ (done : List Path) (path : Path) (entered new_entered : List Path) (stack : List OpenDirectory) (directory : OpenDirectory)
       (way : IsOnWay accepts opens visit done path entered stack) (more : IsClosed stack → ⊥) (below : length stack < length path)
       (is : dir_of directory ≡ take (length stack) path) (known : IsValidOpen accepts opens visit directory)
-      (adds : new_entered ≡ entered ++ path_if (is_entered (visit_spec directory.visit)) (dir_of directory)) where
+      (adds : new_entered ≡ entered ++ path_if (is_entered (sorted_visit_spec directory.visit)) (dir_of directory)) where
     abbrev grown : List OpenDirectory
     grown = stack ++ directory ∷ []
 
@@ -80,7 +80,7 @@ module _ (accepts opens : Path → Bool) (visit : Path → VisitSpec) where
     longer = length-append stack (directory ∷ [])
 
     abbrev enters : Bool
-    enters = is_entered (visit_spec directory.visit)
+    enters = is_entered (sorted_visit_spec directory.visit)
 
     grown_later : (j : ℕ) → length stack ≤ j → j < length path → (dir : Path) → Contains entered dir → path_cmp dir (take j path) ≡ Less
     grown_later = by_case way.fresh
@@ -127,8 +127,8 @@ module _ (accepts opens : Path → Bool) (visit : Path → VisitSpec) where
             Contains-append_right entered (path_if enters (dir_of directory)) dir
             (subst (Contains (path_if enters (dir_of directory))) (sym same) (from_path_if enters (dir_of directory) (sym known.itself ∙ sym (ap (walk_enters visit []) same) ∙ on)))
 
-    grown_fresh : (s : Bool) → is_entered (visit_spec directory.visit) ≡ s → IsFresh path (entered ++ path_if s (dir_of directory)) grown
-    grown_fresh false e = inl (omega (arith, longer), λ d. ap (λ (o : OpenDirectory). visit_spec o.visit) (get_or_push stack directory d (length grown - 1) (omega (arith, longer))) ∙ no_entry_of (visit_spec directory.visit) e)
+    grown_fresh : (s : Bool) → is_entered (sorted_visit_spec directory.visit) ≡ s → IsFresh path (entered ++ path_if s (dir_of directory)) grown
+    grown_fresh false e = inl (omega (arith, longer), λ d. ap (λ (o : OpenDirectory). sorted_visit_spec o.visit) (get_or_push stack directory d (length grown - 1) (omega (arith, longer))) ∙ no_entry_of (sorted_visit_spec directory.visit) e)
       where
         no_entry_of : (v : VisitSpec) → is_entered v ≡ false → v ≡ nothing
         no_entry_of all_recursively e = absurd (false≢true (sym e))
@@ -465,13 +465,13 @@ module _ (accepts opens : Path → Bool) (visit : Path → VisitSpec) where
   root_opened known root asked at sound at' is =
       subst (λ q. DeterminesWalk accepts opens visit q known) (sym at) (root_goes_on accepts opens visit known (subst (λ q. IsSound accepts opens q known) at' sound) (sym (is ∙ ap visit at')))
 
-  pub pushes_next : (done : List Path) (path : Path) (entered new_entered : List Path) (stack new : List OpenDirectory) (dir : Path) (known : VisitSpec) (directory : OpenDirectory) → dir_of directory ≡ dir → visit_spec directory.visit ≡ known
+  pub pushes_next : (done : List Path) (path : Path) (entered new_entered : List Path) (stack new : List OpenDirectory) (dir : Path) (known : VisitSpec) (directory : OpenDirectory) → dir_of directory ≡ dir → sorted_visit_spec directory.visit ≡ known
       → new ≡ stack ++ directory ∷ [] → new_entered ≡ entered ++ path_if (is_entered known) dir → (IsClosed stack → ⊥) → length stack < length path → dir ≡ take (length stack) path → DeterminesWalk accepts opens visit dir known
       → IsOnWay accepts opens visit done path entered stack → IsOnWay accepts opens visit done path new_entered new
   pushes_next done path entered new_entered stack new dir known directory at seen adds enters_it more below is on way =
       subst (IsOnWay accepts opens visit done path new_entered) (sym adds)
       (opened_next done path entered new_entered stack directory way more below (at ∙ is)
-      (subst (λ q. DeterminesWalk accepts opens visit q (visit_spec directory.visit)) (sym at) (subst (DeterminesWalk accepts opens visit dir) (sym seen) on))
+      (subst (λ q. DeterminesWalk accepts opens visit q (sorted_visit_spec directory.visit)) (sym at) (subst (DeterminesWalk accepts opens visit dir) (sym seen) on))
       (enters_it ∙ ap (λ q. entered ++ path_if (is_entered known) q) (sym at) ∙ ap (λ v. entered ++ path_if (is_entered v) (dir_of directory)) (sym seen)))
 
   -- a mark whose parent is open, or below a directory whose visit is `nothing`
@@ -535,9 +535,9 @@ root_above stack new directory none adds root path = (omega (arith, long), inr (
     at d = ap (λ l. get_or l (length new - 1) d) adds ∙ get_or_push stack directory d (length new - 1) (omega (arith, long, none))
 
 -- an open directory that is the last one
-pub not_closed : (stack : List OpenDirectory) (parent : OpenDirectory) → Some parent ≡ slice_get stack (length stack - 1) → (visit_spec parent.visit ≡ nothing → false ≡ true) → IsClosed stack → ⊥
+pub not_closed : (stack : List OpenDirectory) (parent : OpenDirectory) → Some parent ≡ slice_get stack (length stack - 1) → (sorted_visit_spec parent.visit ≡ nothing → false ≡ true) → IsClosed stack → ⊥
 not_closed stack parent last open_still closed =
-    false≢true (open_still (ap (λ (o : OpenDirectory). visit_spec o.visit) (got stack (length stack - 1) parent parent last) ∙ closed.1 parent))
+    false≢true (open_still (ap (λ (o : OpenDirectory). sorted_visit_spec o.visit) (got stack (length stack - 1) parent parent last) ∙ closed.1 parent))
 
 pub grows_by_one : (stack new : List OpenDirectory) (directory : OpenDirectory) → new ≡ stack ++ directory ∷ [] → length new ≡ length stack + 1
 grows_by_one stack new directory adds = ap length adds ∙ length-append stack (directory ∷ [])

@@ -1,5 +1,6 @@
 pub mod VisitSpecs
 pub mod Visits
+pub mod SortedVisits
 pub mod MentionedNames
 pub mod Combined
 pub mod PathLists

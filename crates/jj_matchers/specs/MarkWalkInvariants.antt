@@ -9,7 +9,7 @@ use Rattle.jj_paths.specs.Paths.{Name, Path, IsBelow, path_cmp}
 use Rattle.jj_paths.specs.declared.repo_path.RepoPath.{RepoPath}
 use Rattle.jj_paths.specs.declared.repo_path.RepoPathComponent.{RepoPathComponent}
 use Rattle.jj_matchers.specs.VisitSpecs.{VisitSpec, IsSound, nothing}
-use Rattle.jj_matchers.specs.Visits.{visit_spec}
+use Rattle.jj_matchers.specs.SortedVisits.{sorted_visit_spec}
 use Rattle.jj_matchers.specs.Walk.{AreInOrder, walk_enters}
 use Rattle.jj_matchers.specs.WalkInvariants.{DeterminesWalk}
 use Rattle.jj_matchers.specs.declared.matchers.mark_walk.OpenDirectory.{OpenDirectory}
@@ -33,11 +33,11 @@ top stack directory = get_or stack (length stack - 1) directory
 -- the visit of the last open directory is `nothing`
 abbrev pub IsClosed : List OpenDirectory → Type 0
 IsClosed stack = (0 < length stack)
-    × ((d : OpenDirectory) → visit_spec (top stack d).visit ≡ nothing)
+    × ((d : OpenDirectory) → sorted_visit_spec (top stack d).visit ≡ nothing)
 
 abbrev pub IsValidOpen : (Path → Bool) → (Path → Bool) → (Path → VisitSpec) → OpenDirectory → Type 0
 IsValidOpen accepts opens visit directory =
-    DeterminesWalk accepts opens visit (dir_of directory) (visit_spec directory.visit)
+    DeterminesWalk accepts opens visit (dir_of directory) (sorted_visit_spec directory.visit)
 
 -- one of the directories above a path that are open
 abbrev pub IsOpenAt : List OpenDirectory → Path → Path → Type 0
@@ -113,6 +113,6 @@ pub record IsListedDown (path : Path) (from : ℕ)
 -- whether a file is accepted follows from the visit of the last open directory
 abbrev pub DecidesFile : (Path → Bool) → (Path → Bool) → Path → Name → OpenDirectory → Type 0
 DecidesFile accepts opens mark name directory =
-    ((visit_spec directory.visit ≡ nothing) × (accepts mark ≡ false))
-    ⊎ (IsSound accepts opens (dir_of directory) (visit_spec directory.visit)
+    ((sorted_visit_spec directory.visit ≡ nothing) × (accepts mark ≡ false))
+    ⊎ (IsSound accepts opens (dir_of directory) (sorted_visit_spec directory.visit)
     × (mark ≡ dir_of directory ++ name ∷ []))

@@ -12,6 +12,8 @@ mod marks;
 mod path_glob_pattern;
 mod pattern_order;
 mod prefix_matcher;
+mod sorted_operations;
+mod sorted_visits;
 mod tree_walk;
 mod union_matcher;
 mod visits;
@@ -21,6 +23,7 @@ ghost use Rattle.jj_paths.specs.Paths.{Name, Path};
 ghost use Rattle.jj_paths.specs.Names.{path_of};
 ghost use Rattle.jj_matchers.specs.VisitSpecs.{VisitSpec, IsSound, all_recursively, nothing};
 ghost use Rattle.jj_matchers.specs.MentionedNames.{MentionsOnly};
+ghost use Rattle.jj_matchers.specs.SortedVisits.{sorted_visit_spec};
 ghost use Rattle.jj_matchers.specs.Visits.{visit_spec};
 
 pub use difference_matcher::{DifferenceMatcher, difference_visit};
@@ -32,6 +35,8 @@ pub use mark_walk::{MarkWalk, walk_marks};
 pub use marks::marked_tree;
 pub use path_glob_pattern::PathGlobPattern;
 pub use prefix_matcher::PrefixMatcher;
+pub use sorted_operations::{difference_sorted, intersection_sorted, union_sorted};
+pub use sorted_visits::{SortedNames, SortedVisit};
 use std::alloc::{AllocError, Global};
 pub use tree_walk::{Walk, walk_matching};
 pub use union_matcher::{UnionMatcher, union_visit};
@@ -66,6 +71,18 @@ pub trait Matcher: Drop {
             MentionsOnly (mentioned self.now (path_of dir.entry)) (visit_spec visit)) };
 }
 
+/// A matcher that visits with sorted names, which `walk_marks` looks up.
+pub trait SortedMatcher: Matcher {
+    /// Returns the visit of a directory, as `visit` does, with names that the matcher has.
+    fn visit_sorted(&self, alloc: Global, dir: RepoPath<'_>) -> Result<SortedVisit<'_>, AllocError>
+        ensures visit { IfOk result (λ visit. sorted_visit_spec visit
+            ≡ Self.visits self.now (path_of dir.entry)) }
+        ensures sound { IfOk result (λ visit. IsSound (Self.accepts self.now)
+            (Self.opens self.now) (path_of dir.entry) (sorted_visit_spec visit)) }
+        ensures names { IfOk result (λ visit.
+            MentionsOnly (Self.mentioned self.now (path_of dir.entry)) (sorted_visit_spec visit)) };
+}
+
 impl<T: Matcher> Matcher for &T {
     ghost accepts = { λ m. T.accepts m.now };
 
@@ -81,6 +98,16 @@ impl<T: Matcher> Matcher for &T {
 
     fn visit(&self, alloc: Global, dir: RepoPath<'_>) -> Result<Visit, AllocError> {
         (**self).visit(alloc, dir)
+    }
+}
+
+impl<T: SortedMatcher> SortedMatcher for &T {
+    fn visit_sorted(
+        &self,
+        alloc: Global,
+        dir: RepoPath<'_>,
+    ) -> Result<SortedVisit<'_>, AllocError> {
+        (**self).visit_sorted(alloc, dir)
     }
 }
 
@@ -125,6 +152,16 @@ impl Matcher for NothingMatcher {
     }
 }
 
+impl SortedMatcher for NothingMatcher {
+    fn visit_sorted(
+        &self,
+        _alloc: Global,
+        _dir: RepoPath<'_>,
+    ) -> Result<SortedVisit<'_>, AllocError> {
+        Ok(SortedVisit::Nothing)
+    }
+}
+
 /// The set of all paths.
 #[derive(Debug, PartialEq, Eq, Drop)]
 pub struct EverythingMatcher;
@@ -144,5 +181,15 @@ impl Matcher for EverythingMatcher {
 
     fn visit(&self, _alloc: Global, _dir: RepoPath<'_>) -> Result<Visit, AllocError> {
         Ok(Visit::AllRecursively)
+    }
+}
+
+impl SortedMatcher for EverythingMatcher {
+    fn visit_sorted(
+        &self,
+        _alloc: Global,
+        _dir: RepoPath<'_>,
+    ) -> Result<SortedVisit<'_>, AllocError> {
+        Ok(SortedVisit::AllRecursively)
     }
 }

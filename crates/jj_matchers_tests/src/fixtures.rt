@@ -2,7 +2,8 @@
 use jj_content_tests::retry::Passed;
 use jj_globs::glob::GlobError;
 use jj_matchers::matchers::{
-    FilesMatcher, GlobsMatcher, Matcher, PathGlobPattern, PrefixMatcher, walk_matching,
+    FilesMatcher, GlobsMatcher, Matcher, PathGlobPattern, PrefixMatcher, SortedMatcher, walk_marks,
+    walk_matching,
 };
 use jj_paths::repo_path::{RepoPath, RepoPathBuf};
 use jj_paths::repo_path_tree::RepoPathTree;
@@ -89,5 +90,32 @@ fn check_paths<R: Abort>(rt: &R, paths: &[RepoPathBuf], expected: &[&str]) {
     assert_eq!(rt; paths.len(), expected.len());
     for (path, text) in paths.iter().zip(expected) {
         assert_eq!(rt; path.as_path().as_internal_file_string(), *text);
+    }
+}
+
+/// Asserts the same of the walk of a tree with these marks and of that of their list.
+pub fn check_both_walks<R: Abort, M: SortedMatcher>(
+    rt: &R,
+    alloc: Global,
+    matcher: &M,
+    marks: &[&'static str],
+    files: &[&str],
+    entered: &[&str],
+) -> Passed {
+    check_walk(rt, alloc, matcher, marks, files, entered)?;
+    let mut paths = Vec::new(alloc);
+    for mark in marks {
+        paths.push(path(rt, alloc, mark))?;
+    }
+    let walk = walk_marks(alloc, &paths, matcher)?;
+    check_borrowed(rt, walk.files.as_slice(), files);
+    check_borrowed(rt, walk.entered.as_slice(), entered);
+    Ok(())
+}
+
+fn check_borrowed<R: Abort>(rt: &R, paths: &[RepoPath<'_>], expected: &[&str]) {
+    assert_eq!(rt; paths.len(), expected.len());
+    for (path, text) in paths.iter().zip(expected) {
+        assert_eq!(rt; path.as_internal_file_string(), *text);
     }
 }

@@ -5,9 +5,9 @@ use Rattle.jj_matchers.specs.VisitSpecs.{VisitSpec, IsSound}
 use Rattle.jj_matchers.specs.MentionedNames.{MentionsOnly}
 use Rattle.jj_matchers.specs.Combined.{intersection_spec}
 use Rattle.jj_matchers.specs.PathLists.{files_spec, prefix_spec}
-use Rattle.jj_matchers.specs.declared.matchers.visits.Visit.{Visit}
-use Rattle.jj_matchers.specs.declared.matchers.visits.Visit.TheVariants.{Nothing}
-use Rattle.jj_matchers.specs.Visits.{visit_spec}
+use Rattle.jj_matchers.specs.declared.matchers.sorted_visits.SortedVisit.{SortedVisit}
+use Rattle.jj_matchers.specs.declared.matchers.sorted_visits.SortedVisit.TheVariants.{Nothing}
+use Rattle.jj_matchers.specs.SortedVisits.{sorted_visit_spec}
 use Rattle.jj_matchers.proofs.Combined.{union_sound, difference_sound, intersection_sound}
 use Rattle.jj_matchers.proofs.MentionedNames.{chosen_left, chosen_right, union_chooses, difference_chooses, intersection_chooses, files_visit, prefixes_visit}
 use Rattle.jj_matchers.proofs.PatternSound.{patterns_sound, patterns_choose}
@@ -68,33 +68,33 @@ abbrev at : Path → List (SetTree FileSet) → List VisitSpec
 at dir sets = map (λ set. (spec_of set).visits dir) sets
 
 -- the top two are combined
-pub combine_two : (dir : Path) (k : Combination) (earlier : List (SetOp FileSet)) (second first visit : Visit) (old mid rest new : List Visit) → old ≡ mid ++ second ∷ [] → mid ≡ rest ++ first ∷ [] → new ≡ rest ++ visit ∷ [] →
-    ((dir : Path) (a b : SetTree FileSet) → visit_spec first ≡ (spec_of a).visits dir → visit_spec second ≡ (spec_of b).visits dir → visit_spec visit ≡ (spec_of (both k a b)).visits dir) →
-    map visit_spec (reverse old) ≡ visits_at dir earlier → map visit_spec (reverse new) ≡ visits_at dir (Combine k ∷ earlier)
+pub combine_two : (dir : Path) (k : Combination) (earlier : List (SetOp FileSet)) (second first visit : SortedVisit) (old mid rest new : List SortedVisit) → old ≡ mid ++ second ∷ [] → mid ≡ rest ++ first ∷ [] → new ≡ rest ++ visit ∷ [] →
+    ((dir : Path) (a b : SetTree FileSet) → sorted_visit_spec first ≡ (spec_of a).visits dir → sorted_visit_spec second ≡ (spec_of b).visits dir → sorted_visit_spec visit ≡ (spec_of (both k a b)).visits dir) →
+    map sorted_visit_spec (reverse old) ≡ visits_at dir earlier → map sorted_visit_spec (reverse new) ≡ visits_at dir (Combine k ∷ earlier)
 combine_two dir k earlier second first visit old mid rest new e f g combined h =
     let before : reverse old ≡ second ∷ first ∷ reverse rest = ap reverse e ∙ reverse_more mid second ∙ ap (λ l. second ∷ l) (ap reverse f ∙ reverse_more rest first) in
-    ap (map visit_spec) (ap reverse g ∙ reverse_more rest visit) ∙ two (stack_of earlier) (sym (ap (map visit_spec) before) ∙ h)
+    ap (map sorted_visit_spec) (ap reverse g ∙ reverse_more rest visit) ∙ two (stack_of earlier) (sym (ap (map sorted_visit_spec) before) ∙ h)
   where
-    two : (stack : List (SetTree FileSet)) → visit_spec second ∷ visit_spec first ∷ map visit_spec (reverse rest) ≡ at dir stack → visit_spec visit ∷ map visit_spec (reverse rest) ≡ at dir (combined_stack k stack)
+    two : (stack : List (SetTree FileSet)) → sorted_visit_spec second ∷ sorted_visit_spec first ∷ map sorted_visit_spec (reverse rest) ≡ at dir stack → sorted_visit_spec visit ∷ map sorted_visit_spec (reverse rest) ≡ at dir (combined_stack k stack)
     two [] e = cc
     two (b ∷ []) e = cc
     two (b ∷ a ∷ stack) e =
-        let is_first : visit_spec first ≡ (spec_of a).visits dir = cc in
-        let is_second : visit_spec second ≡ (spec_of b).visits dir = cc in
-        let others : map visit_spec (reverse rest) ≡ at dir stack = cc in
+        let is_first : sorted_visit_spec first ≡ (spec_of a).visits dir = cc in
+        let is_second : sorted_visit_spec second ≡ (spec_of b).visits dir = cc in
+        let others : map sorted_visit_spec (reverse rest) ≡ at dir stack = cc in
         (λ i. combined dir a b is_first is_second i ∷ others i)
 
 -- the top visit is that of the top set; an empty stack visits nothing
-pub visit_top : (dir : Path) (code : List (SetOp FileSet)) (visits rest : List Visit) (visit : Visit) → visits ≡ rest ++ visit ∷ [] → map visit_spec (reverse visits) ≡ visits_at dir code → visit_spec visit ≡ (spec_of (made_by code)).visits dir
-visit_top dir code visits rest visit is h = top (stack_of code) (sym (ap (map visit_spec) (ap reverse is ∙ reverse_more rest visit)) ∙ h)
+pub visit_top : (dir : Path) (code : List (SetOp FileSet)) (visits rest : List SortedVisit) (visit : SortedVisit) → visits ≡ rest ++ visit ∷ [] → map sorted_visit_spec (reverse visits) ≡ visits_at dir code → sorted_visit_spec visit ≡ (spec_of (made_by code)).visits dir
+visit_top dir code visits rest visit is h = top (stack_of code) (sym (ap (map sorted_visit_spec) (ap reverse is ∙ reverse_more rest visit)) ∙ h)
   where
-    top : (stack : List (SetTree FileSet)) → visit_spec visit ∷ map visit_spec (reverse rest) ≡ at dir stack → visit_spec visit ≡ (spec_of (get_or stack 0 (one Nothing'))).visits dir
+    top : (stack : List (SetTree FileSet)) → sorted_visit_spec visit ∷ map sorted_visit_spec (reverse rest) ≡ at dir stack → sorted_visit_spec visit ≡ (spec_of (get_or stack 0 (one Nothing'))).visits dir
     top [] e = cc
     top (set ∷ others) e = cc
 
-pub visit_none : (dir : Path) (code : List (SetOp FileSet)) (visits : List Visit) → visits ≡ [] → map visit_spec (reverse visits) ≡ visits_at dir code → visit_spec Nothing ≡ (spec_of (made_by code)).visits dir
-visit_none dir code visits is h = top (stack_of code) (sym (ap (λ l. map visit_spec (reverse l)) is) ∙ h)
+pub visit_none : (dir : Path) (code : List (SetOp FileSet)) (visits : List SortedVisit) → visits ≡ [] → map sorted_visit_spec (reverse visits) ≡ visits_at dir code → sorted_visit_spec Nothing ≡ (spec_of (made_by code)).visits dir
+visit_none dir code visits is h = top (stack_of code) (sym (ap (λ l. map sorted_visit_spec (reverse l)) is) ∙ h)
   where
-    top : (stack : List (SetTree FileSet)) → [] ≡ at dir stack → visit_spec Nothing ≡ (spec_of (get_or stack 0 (one Nothing'))).visits dir
+    top : (stack : List (SetTree FileSet)) → [] ≡ at dir stack → sorted_visit_spec Nothing ≡ (spec_of (get_or stack 0 (one Nothing'))).visits dir
     top [] e = refl
     top (set ∷ others) e = cc

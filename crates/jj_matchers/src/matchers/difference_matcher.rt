@@ -4,7 +4,9 @@ ghost use Rattle.jj_matchers.specs.VisitSpecs.{specific};
 ghost use Rattle.jj_matchers.specs.Combined.{difference_spec};
 ghost use Rattle.jj_matchers.specs.Visits.{visit_spec};
 
-use crate::matchers::{Matcher, Visit, VisitDirs, VisitFiles};
+use crate::matchers::{
+    Matcher, SortedMatcher, SortedVisit, Visit, VisitDirs, VisitFiles, difference_sorted,
+};
 use jj_paths::repo_path::RepoPath;
 use std::alloc::{AllocError, Global};
 
@@ -46,6 +48,21 @@ impl<M1: Matcher, M2: Matcher> Matcher for DifferenceMatcher<M1, M2> {
         }
         let wanted = self.wanted.visit(alloc, dir)?;
         Ok(difference_visit(wanted, unwanted))
+    }
+}
+
+impl<M1: SortedMatcher, M2: SortedMatcher> SortedMatcher for DifferenceMatcher<M1, M2> {
+    fn visit_sorted(
+        &self,
+        alloc: Global,
+        dir: RepoPath<'_>,
+    ) -> Result<SortedVisit<'_>, AllocError> {
+        let unwanted = self.unwanted.visit_sorted(alloc, dir)?;
+        if matches!(unwanted, SortedVisit::AllRecursively) {
+            return Ok(SortedVisit::Nothing);
+        }
+        let wanted = self.wanted.visit_sorted(alloc, dir)?;
+        Ok(difference_sorted(wanted, unwanted))
     }
 }
 

@@ -3,10 +3,11 @@ ghost use Rattle.std.specs.Prelude.{◌≡◌, ◌↔◌, true, Contains, IfOk, 
 ghost use Rattle.jj_paths.specs.Paths.{Path};
 ghost use Rattle.jj_paths.specs.Names.{path_of};
 ghost use Rattle.jj_matchers.specs.MentionedNames.{names_of};
+ghost use Rattle.jj_matchers.specs.SortedVisits.{sorted_visit_spec};
 ghost use Rattle.jj_matchers.specs.PathLists.{HasSamePaths, is_listed, leads_to_listed, files_spec};
 
 use crate::matchers::children_visit::visit_children;
-use crate::matchers::{Matcher, Visit, marked_tree};
+use crate::matchers::{Matcher, SortedMatcher, SortedVisit, Visit, marked_tree};
 use jj_paths::repo_path::RepoPath;
 use jj_paths::repo_path_tree::RepoPathTree;
 use std::alloc::{AllocError, Global};
@@ -41,6 +42,17 @@ impl FilesMatcher {
             tree: marked_tree(alloc, files)?,
         })
     }
+
+    // Returns the visit of the children in the tree.
+    fn compute_visit(&self, alloc: Global, dir: RepoPath<'_>) -> Result<SortedVisit<'_>, AllocError>
+        ensures { IfOk result (λ visit. sorted_visit_spec visit
+            ≡ files_spec self.now (path_of dir.entry)) }
+    {
+        match self.tree.get(dir) {
+            Some(node) => visit_children(alloc, node, false),
+            None => Ok(SortedVisit::Nothing),
+        }
+    }
 }
 
 impl Matcher for FilesMatcher {
@@ -60,9 +72,16 @@ impl Matcher for FilesMatcher {
     }
 
     fn visit(&self, alloc: Global, dir: RepoPath<'_>) -> Result<Visit, AllocError> {
-        match self.tree.get(dir) {
-            Some(node) => visit_children(alloc, node, false),
-            None => Ok(Visit::Nothing),
-        }
+        self.compute_visit(alloc, dir)?.to_visit(alloc)
+    }
+}
+
+impl SortedMatcher for FilesMatcher {
+    fn visit_sorted(
+        &self,
+        alloc: Global,
+        dir: RepoPath<'_>,
+    ) -> Result<SortedVisit<'_>, AllocError> {
+        self.compute_visit(alloc, dir)
     }
 }

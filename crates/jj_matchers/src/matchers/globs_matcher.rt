@@ -5,6 +5,7 @@ ghost use Rattle.std.specs.Option.{option_map};
 ghost use Rattle.jj_paths.specs.Paths.{Path};
 ghost use Rattle.jj_paths.specs.Names.{path_of};
 ghost use Rattle.jj_matchers.specs.VisitSpecs.{IsSound};
+ghost use Rattle.jj_matchers.specs.SortedVisits.{sorted_visit_spec};
 ghost use Rattle.jj_matchers.specs.Visits.{visit_spec};
 ghost use Rattle.jj_matchers.specs.MentionedNames.{MentionsOnly, names_of};
 ghost use Rattle.jj_matchers.specs.Marks.{children_spec, any_node};
@@ -13,11 +14,12 @@ ghost use Rattle.jj_matchers.specs.Patterns.{HasSamePatterns, IsAccepted, IsSoun
 ghost use Rattle.jj_matchers.specs.PatternTree.{AddsGlobs, IsPatternTree, globs_at, marked_branches, no_node};
 
 use crate::matchers::dir_patterns::DirPatterns;
-use crate::matchers::{Matcher, PathGlobPattern, Visit, VisitDirs, VisitFiles};
+use crate::matchers::sorted_visits::insert_if;
+use crate::matchers::{Matcher, PathGlobPattern, SortedMatcher, SortedNames, SortedVisit, Visit};
 use jj_paths::repo_path::RepoPath;
 use jj_paths::repo_path_tree::RepoPathTree;
 use std::alloc::{AllocError, Global};
-use std::collections::HashSet;
+use std::collections::BTreeSet;
 use std::marker::Model;
 
 /// The paths strictly below a directory whose tail, the rest of the path below it as a string,
@@ -74,22 +76,22 @@ impl GlobsMatcher {
             .any(|(node, _)| node.value().has_patterns())
     }
 
-    fn compute_visit(&self, alloc: Global, dir: RepoPath<'_>) -> Result<Visit, AllocError>
-        ensures { IfOk result (λ visit. visit_spec visit
+    fn compute_visit(&self, alloc: Global, dir: RepoPath<'_>) -> Result<SortedVisit<'_>, AllocError>
+        ensures { IfOk result (λ visit. sorted_visit_spec visit
             ≡ patterns_spec self.now (path_of dir.entry)) }
     {
         if self.covers(dir) {
-            return Ok(Visit::AllRecursively);
+            return Ok(SortedVisit::AllRecursively);
         }
         if self.has_patterns_above(dir) {
-            return Ok(Visit::Specific {
-                dirs: VisitDirs::All,
-                files: VisitFiles::All,
+            return Ok(SortedVisit::Specific {
+                dirs: SortedNames::All,
+                files: SortedNames::All,
             });
         }
         match self.tree.get(dir) {
             Some(node) => visit_directories(alloc, node),
-            None => Ok(Visit::Nothing),
+            None => Ok(SortedVisit::Nothing),
         }
     }
 }
@@ -134,20 +136,33 @@ impl Matcher for GlobsMatcher {
         ensures meaning { IfOk result (λ visit.
             IsSoundForGlobs self.now (path_of dir.entry) (visit_spec visit)) }
     {
+        self.compute_visit(alloc, dir)?.to_visit(alloc)
+    }
+}
+
+impl SortedMatcher for GlobsMatcher {
+    fn visit_sorted(
+        &self,
+        alloc: Global,
+        dir: RepoPath<'_>,
+    ) -> Result<SortedVisit<'_>, AllocError> {
         self.compute_visit(alloc, dir)
     }
 }
 
 // Returns the visit of all children as directories, and of none as a file.
-fn visit_directories(alloc: Global, tree: &RepoPathTree<DirPatterns>) -> Result<Visit, AllocError>
-    ensures { IfOk result (λ visit. visit_spec visit
+fn visit_directories(
+    alloc: Global,
+    tree: &RepoPathTree<DirPatterns>,
+) -> Result<SortedVisit<'_>, AllocError>
+    ensures { IfOk result (λ visit. sorted_visit_spec visit
         ≡ children_spec any_node no_node (marked_branches tree.now.branches)) }
 {
-    let mut dirs = HashSet::new(alloc);
+    let mut dirs = BTreeSet::new(alloc);
     for (name, _) in tree.children() {
-        dirs.insert(name.to_owned(alloc)?)?;
+        insert_if(&mut dirs, name, true)?;
     }
-    Ok(Visit::sets(dirs, HashSet::new(alloc)))
+    Ok(SortedVisit::sets(dirs, BTreeSet::new(alloc)))
 }
 
 /// Collects directories with patterns, from which it builds a `GlobsMatcher`.

@@ -5,7 +5,9 @@ ghost use Rattle.jj_matchers.specs.Combined.{intersection_spec, spec_of_names};
 ghost use Rattle.jj_matchers.specs.MentionedNames.{MentionsOnly, IsAllOrAmong};
 ghost use Rattle.jj_matchers.specs.Visits.{visit_spec, dir_names, file_names, is_among};
 
-use crate::matchers::{Matcher, Visit, VisitDirs, VisitFiles};
+use crate::matchers::{
+    Matcher, SortedMatcher, SortedVisit, Visit, VisitDirs, VisitFiles, intersection_sorted,
+};
 use jj_paths::repo_path::{RepoPath, RepoPathComponentBuf};
 use std::alloc::{AllocError, Global};
 use std::collections::HashSet;
@@ -49,6 +51,21 @@ impl<M1: Matcher, M2: Matcher> Matcher for IntersectionMatcher<M1, M2> {
         }
         let second = self.input2.visit(alloc, dir)?;
         Ok(intersection_visit(first, second))
+    }
+}
+
+impl<M1: SortedMatcher, M2: SortedMatcher> SortedMatcher for IntersectionMatcher<M1, M2> {
+    fn visit_sorted(
+        &self,
+        alloc: Global,
+        dir: RepoPath<'_>,
+    ) -> Result<SortedVisit<'_>, AllocError> {
+        let first = self.input1.visit_sorted(alloc, dir)?;
+        if matches!(first, SortedVisit::Nothing) {
+            return Ok(first);
+        }
+        let second = self.input2.visit_sorted(alloc, dir)?;
+        intersection_sorted(alloc, first, second)
     }
 }
 

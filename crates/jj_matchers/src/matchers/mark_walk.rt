@@ -4,7 +4,7 @@ ghost use Rattle.std.specs.Prelude.{◌≡◌, ◌<◌, ◌⊎◌, ◌+◌, ◌+
 ghost use Rattle.std.specs.declared.cmp.Ordering.TheVariants.{Less};
 ghost use Rattle.jj_paths.specs.Names.{name_of, path_of};
 ghost use Rattle.jj_paths.specs.Paths.{Name, Path, path_cmp};
-ghost use Rattle.jj_matchers.specs.Visits.{dir_names, file_names, visit_spec};
+ghost use Rattle.jj_matchers.specs.SortedVisits.{sorted_visit_spec};
 ghost use Rattle.jj_matchers.specs.Walk.{is_entered, path_if};
 ghost use Rattle.jj_matchers.specs.WalkInvariants.{DeterminesWalk};
 ghost use Rattle.jj_matchers.specs.MarkWalk.{WalksMarks};
@@ -12,7 +12,7 @@ ghost use Rattle.jj_matchers.specs.MarkWalkInvariants.{DecidesFile, IsAtOrAbove,
 ghost use Rattle.jj_matchers.specs.declared.matchers.mark_walk.OpenDirectory.{OpenDirectory};
 
 use crate::matchers::marks::sorted_marks;
-use crate::matchers::{Matcher, Visit, VisitDirs, VisitFiles};
+use crate::matchers::{SortedMatcher, SortedVisit};
 use jj_paths::repo_path::{RepoPath, RepoPathComponent};
 use std::alloc::{AllocError, Global};
 
@@ -27,16 +27,16 @@ pub struct MarkWalk<'t> {
 
 // A directory above the last mark, and its visit.
 #[derive(Drop)]
-struct OpenDirectory<'t> {
+struct OpenDirectory<'m, 't> {
     dir: RepoPath<'t>,
-    visit: Visit,
+    visit: SortedVisit<'m>,
 }
 
 /// Returns the marks below the root that the matcher accepts, and the directories that were entered
 /// to find them, as `walk_matching` does for the tree of the marks. The marks may be in any order
-/// and repeat. Sorts them; then takes time linear in their length and that of the entered
-/// directories, apart from the calls of the matcher.
-pub fn walk_marks<'t, M: Matcher>(
+/// and repeat. O(n log n) comparisons of names for n names of the marks and the visits, apart from
+/// the calls of the matcher.
+pub fn walk_marks<'t, M: SortedMatcher>(
     alloc: Global,
     marks: &[RepoPath<'t>],
     matcher: &M,
@@ -56,12 +56,12 @@ pub fn walk_marks<'t, M: Matcher>(
 }
 
 // Visits a mark that follows all earlier ones in path order.
-fn visit_mark<'t, M: Matcher>(
+fn visit_mark<'m, 't: 'm, M: SortedMatcher>(
     alloc: Global,
     mark: RepoPath<'t>,
-    matcher: &M,
+    matcher: &'m M,
     walk: &mut MarkWalk<'t>,
-    stack: &mut Vec<OpenDirectory<'t>>,
+    stack: &mut Vec<OpenDirectory<'m, 't>>,
 ) -> Result<(), AllocError>
     ensures { OnOk result ((done : List Path)
         → ((earlier : Path) → Contains done earlier
@@ -78,12 +78,12 @@ fn visit_mark<'t, M: Matcher>(
     close_others(stack, above);
     open_root(alloc, matcher, walk, stack)?;
     open_down(alloc, above, matcher, walk, stack)?;
-    push_file(alloc, mark, name, matcher, walk, stack)?;
+    push_file(mark, name, matcher, walk, stack)?;
     Ok(())
 }
 
 // Closes the directories after the last one that is at or above a path.
-fn close_others(stack: &mut Vec<OpenDirectory<'_>>, path: RepoPath<'_>)
+fn close_others(stack: &mut Vec<OpenDirectory<'_, '_>>, path: RepoPath<'_>)
     ensures { IsCutTo (path_of path.entry) stack.old.items stack.new.items }
 {
     while let Some(directory) = stack.last() {
@@ -95,11 +95,11 @@ fn close_others(stack: &mut Vec<OpenDirectory<'_>>, path: RepoPath<'_>)
 }
 
 // Opens the root, unless it is open.
-fn open_root<'t, M: Matcher>(
+fn open_root<'m, 't, M: SortedMatcher>(
     alloc: Global,
-    matcher: &M,
+    matcher: &'m M,
     walk: &mut MarkWalk<'t>,
-    stack: &mut Vec<OpenDirectory<'t>>,
+    stack: &mut Vec<OpenDirectory<'m, 't>>,
 ) -> Result<(), AllocError>
     ensures files { OnOk result (walk.new.files.items ≡ walk.old.files.items) }
     ensures opened { OnOk result ((done : List Path) (path : Path) → 0 < length path
@@ -111,19 +111,19 @@ fn open_root<'t, M: Matcher>(
         → (0 < length stack.new.items) × IsAtOrAbove path stack.new.items) }
 {
     if stack.is_empty() {
-        let visit = matcher.visit(alloc, RepoPath::root())?;
+        let visit = matcher.visit_sorted(alloc, RepoPath::root())?;
         open_directory(RepoPath::root(), visit, walk, stack)?;
     }
     Ok(())
 }
 
 // Opens the directories at and above a path that are not yet open, until one has no accepted files.
-fn open_down<'t, M: Matcher>(
+fn open_down<'m, 't: 'm, M: SortedMatcher>(
     alloc: Global,
     path: RepoPath<'t>,
-    matcher: &M,
+    matcher: &'m M,
     walk: &mut MarkWalk<'t>,
-    stack: &mut Vec<OpenDirectory<'t>>,
+    stack: &mut Vec<OpenDirectory<'m, 't>>,
 ) -> Result<(), AllocError>
     ensures files { OnOk result (walk.new.files.items ≡ walk.old.files.items) }
     ensures opened { OnOk result ((done : List Path) (name : Name) → 0 < length stack.old.items
@@ -146,7 +146,7 @@ fn open_down<'t, M: Matcher>(
 fn directories_down<'t>(
     alloc: Global,
     path: RepoPath<'t>,
-    stack: &[OpenDirectory<'t>],
+    stack: &[OpenDirectory<'_, 't>],
 ) -> Result<Vec<(RepoPath<'t>, RepoPathComponent<'t>)>, AllocError>
     ensures { IfOk result (λ pending. 0 < length stack.now
         → IsAtOrAbove (path_of path.entry) stack.now → IsClosed stack.now ⊎ ((d : OpenDirectory)
@@ -190,13 +190,13 @@ fn list_down<'t>(
 }
 
 // Opens a directory in the last open one, unless that one has no accepted files.
-fn open_child<'t, M: Matcher>(
+fn open_child<'m, 't: 'm, M: SortedMatcher>(
     alloc: Global,
     dir: RepoPath<'t>,
     name: RepoPathComponent<'t>,
-    matcher: &M,
+    matcher: &'m M,
     walk: &mut MarkWalk<'t>,
-    stack: &mut Vec<OpenDirectory<'t>>,
+    stack: &mut Vec<OpenDirectory<'m, 't>>,
 ) -> Result<(), AllocError>
     ensures files { OnOk result (walk.new.files.items ≡ walk.old.files.items) }
     ensures opened { OnOk result ((done : List Path) (path : Path) → 0 < length stack.old.items
@@ -221,18 +221,19 @@ fn open_child<'t, M: Matcher>(
 }
 
 // Pushes a directory, and enters it unless its visit is `Nothing`.
-fn open_directory<'t>(
+fn open_directory<'m, 't>(
     dir: RepoPath<'t>,
-    visit: Visit,
+    visit: SortedVisit<'m>,
     walk: &mut MarkWalk<'t>,
-    stack: &mut Vec<OpenDirectory<'t>>,
+    stack: &mut Vec<OpenDirectory<'m, 't>>,
 ) -> Result<(), AllocError>
     ensures files { OnOk result (walk.new.files.items ≡ walk.old.files.items) }
     ensures entered { OnOk result (map path_of walk.new.entered.items
         ≡ map path_of walk.old.entered.items
-        ++ path_if (is_entered (visit_spec visit)) (path_of dir.entry)) }
+        ++ path_if (is_entered (sorted_visit_spec visit.entry)) (path_of dir.entry)) }
     ensures pushed { OnOk result ((directory : OpenDirectory)
-        × (dir_of directory ≡ path_of dir.entry) × (visit_spec directory.visit ≡ visit_spec visit)
+        × (dir_of directory ≡ path_of dir.entry)
+        × (sorted_visit_spec directory.visit ≡ sorted_visit_spec visit.entry)
         × (stack.new.items ≡ stack.old.items ++ directory ∷ [])) }
 {
     if !visit.is_nothing() {
@@ -244,41 +245,40 @@ fn open_directory<'t>(
 
 // Returns the visit of a child of a directory with the visit `parent`. Calls the matcher only in a
 // `Specific` visit.
-fn child_visit<M: Matcher>(
+fn child_visit<'m, M: SortedMatcher>(
     alloc: Global,
-    parent: &Visit,
+    parent: &SortedVisit<'m>,
     dir: RepoPath<'_>,
-    name: RepoPathComponent<'_>,
-    matcher: &M,
-) -> Result<Visit, AllocError>
+    name: RepoPathComponent<'m>,
+    matcher: &'m M,
+) -> Result<SortedVisit<'m>, AllocError>
     ensures { IfOk result (λ visit. (above : Path)
         → path_of dir.entry ≡ above ++ name_of name.entry ∷ []
         → DeterminesWalk (M.accepts matcher.now) (M.opens matcher.now) (M.visits matcher.now) above
-        (visit_spec parent.now)
+        (sorted_visit_spec parent.now)
         → DeterminesWalk (M.accepts matcher.now) (M.opens matcher.now) (M.visits matcher.now)
-        (path_of dir.entry) (visit_spec visit)) }
+        (path_of dir.entry) (sorted_visit_spec visit)) }
 {
     match parent {
-        Visit::AllRecursively => Ok(Visit::AllRecursively),
-        Visit::Specific { dirs, files: _ } => {
-            if has_directory(alloc, dirs, name)? {
-                matcher.visit(alloc, dir)
+        SortedVisit::AllRecursively => Ok(SortedVisit::AllRecursively),
+        SortedVisit::Specific { dirs, files: _ } => {
+            if dirs.contains(name) {
+                matcher.visit_sorted(alloc, dir)
             } else {
-                Ok(Visit::Nothing)
+                Ok(SortedVisit::Nothing)
             }
         }
-        Visit::Nothing => Ok(Visit::Nothing),
+        SortedVisit::Nothing => Ok(SortedVisit::Nothing),
     }
 }
 
-// Adds a mark to the files, if it is accepted. Calls the matcher only in a `Specific` visit.
-fn push_file<'t, M: Matcher>(
-    alloc: Global,
+// Adds a mark to the files, if it is accepted.
+fn push_file<'m, 't: 'm, M: SortedMatcher>(
     mark: RepoPath<'t>,
-    name: RepoPathComponent<'_>,
+    name: RepoPathComponent<'t>,
     matcher: &M,
     walk: &mut MarkWalk<'t>,
-    stack: &[OpenDirectory<'t>],
+    stack: &[OpenDirectory<'m, 't>],
 ) -> Result<(), AllocError>
     ensures files { OnOk result (0 < length stack.now → ((d : OpenDirectory)
         → DecidesFile (M.accepts matcher.now) (M.opens matcher.now) (path_of mark.entry)
@@ -290,54 +290,26 @@ fn push_file<'t, M: Matcher>(
     let Some(directory) = stack.last() else {
         return Ok(());
     };
-    if is_accepted(alloc, mark, name, directory, matcher)? {
+    if is_accepted(mark, name, directory, matcher) {
         walk.files.push(mark)?;
     }
     Ok(())
 }
 
-fn is_accepted<M: Matcher>(
-    alloc: Global,
+// Calls the matcher only in a `Specific` visit.
+fn is_accepted<'m, M: SortedMatcher>(
     mark: RepoPath<'_>,
-    name: RepoPathComponent<'_>,
-    directory: &OpenDirectory<'_>,
+    name: RepoPathComponent<'m>,
+    directory: &OpenDirectory<'m, '_>,
     matcher: &M,
-) -> Result<bool, AllocError>
-    ensures { IfOk result (λ accepted. DecidesFile (M.accepts matcher.now) (M.opens matcher.now)
+) -> bool
+    ensures { DecidesFile (M.accepts matcher.now) (M.opens matcher.now)
         (path_of mark.entry) (name_of name.entry) directory.now
-        → accepted ≡ M.accepts matcher.now (path_of mark.entry)) }
+        → result ≡ M.accepts matcher.now (path_of mark.entry) }
 {
     match &directory.visit {
-        Visit::AllRecursively => Ok(true),
-        Visit::Specific { dirs: _, files } => {
-            Ok(has_file(alloc, files, name)? && matcher.matches(mark))
-        }
-        Visit::Nothing => Ok(false),
-    }
-}
-
-fn has_directory(
-    alloc: Global,
-    dirs: &VisitDirs,
-    name: RepoPathComponent<'_>,
-) -> Result<bool, AllocError>
-    ensures { IfOk result (λ has. has ≡ dir_names dirs.now (name_of name.entry)) }
-{
-    match dirs {
-        VisitDirs::All => Ok(true),
-        VisitDirs::Set(names) => Ok(names.contains(&name.to_owned(alloc)?)),
-    }
-}
-
-fn has_file(
-    alloc: Global,
-    files: &VisitFiles,
-    name: RepoPathComponent<'_>,
-) -> Result<bool, AllocError>
-    ensures { IfOk result (λ has. has ≡ file_names files.now (name_of name.entry)) }
-{
-    match files {
-        VisitFiles::All => Ok(true),
-        VisitFiles::Set(names) => Ok(names.contains(&name.to_owned(alloc)?)),
+        SortedVisit::AllRecursively => true,
+        SortedVisit::Specific { dirs: _, files } => files.contains(name) && matcher.matches(mark),
+        SortedVisit::Nothing => false,
     }
 }

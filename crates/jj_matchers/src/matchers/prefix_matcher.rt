@@ -3,10 +3,11 @@ ghost use Rattle.std.specs.Prelude.{◌≡◌, ◌↔◌, ◌||◌, true, Any, I
 ghost use Rattle.jj_paths.specs.Paths.{Path, IsBelow};
 ghost use Rattle.jj_paths.specs.Names.{path_of};
 ghost use Rattle.jj_matchers.specs.MentionedNames.{names_of};
+ghost use Rattle.jj_matchers.specs.SortedVisits.{sorted_visit_spec};
 ghost use Rattle.jj_matchers.specs.PathLists.{HasSamePaths, has_prefix, leads_to_prefix, prefix_spec};
 
 use crate::matchers::children_visit::visit_children;
-use crate::matchers::{Matcher, Visit, marked_tree};
+use crate::matchers::{Matcher, SortedMatcher, SortedVisit, Visit, marked_tree};
 use jj_paths::repo_path::RepoPath;
 use jj_paths::repo_path_tree::RepoPathTree;
 use std::alloc::{AllocError, Global};
@@ -43,6 +44,20 @@ impl PrefixMatcher {
             tree: marked_tree(alloc, prefixes)?,
         })
     }
+
+    // Returns the visit of the children in the tree.
+    fn compute_visit(&self, alloc: Global, dir: RepoPath<'_>) -> Result<SortedVisit<'_>, AllocError>
+        ensures { IfOk result (λ visit. sorted_visit_spec visit
+            ≡ prefix_spec self.now (path_of dir.entry)) }
+    {
+        if self.matches(dir) {
+            return Ok(SortedVisit::AllRecursively);
+        }
+        match self.tree.get(dir) {
+            Some(node) => visit_children(alloc, node, true),
+            None => Ok(SortedVisit::Nothing),
+        }
+    }
 }
 
 impl Matcher for PrefixMatcher {
@@ -59,12 +74,16 @@ impl Matcher for PrefixMatcher {
     }
 
     fn visit(&self, alloc: Global, dir: RepoPath<'_>) -> Result<Visit, AllocError> {
-        if self.matches(dir) {
-            return Ok(Visit::AllRecursively);
-        }
-        match self.tree.get(dir) {
-            Some(node) => visit_children(alloc, node, true),
-            None => Ok(Visit::Nothing),
-        }
+        self.compute_visit(alloc, dir)?.to_visit(alloc)
+    }
+}
+
+impl SortedMatcher for PrefixMatcher {
+    fn visit_sorted(
+        &self,
+        alloc: Global,
+        dir: RepoPath<'_>,
+    ) -> Result<SortedVisit<'_>, AllocError> {
+        self.compute_visit(alloc, dir)
     }
 }

@@ -4,7 +4,9 @@ ghost use Rattle.jj_paths.specs.Paths.{Name};
 ghost use Rattle.jj_matchers.specs.Combined.{union_spec};
 ghost use Rattle.jj_matchers.specs.Visits.{visit_spec, dir_names, file_names, is_among};
 
-use crate::matchers::{Matcher, Visit, VisitDirs, VisitFiles};
+use crate::matchers::{
+    Matcher, SortedMatcher, SortedVisit, Visit, VisitDirs, VisitFiles, union_sorted,
+};
 use jj_paths::repo_path::{RepoPath, RepoPathComponentBuf};
 use std::alloc::{AllocError, Global};
 use std::collections::HashSet;
@@ -46,6 +48,21 @@ impl<M1: Matcher, M2: Matcher> Matcher for UnionMatcher<M1, M2> {
         }
         let second = self.input2.visit(alloc, dir)?;
         union_visit(first, second)
+    }
+}
+
+impl<M1: SortedMatcher, M2: SortedMatcher> SortedMatcher for UnionMatcher<M1, M2> {
+    fn visit_sorted(
+        &self,
+        alloc: Global,
+        dir: RepoPath<'_>,
+    ) -> Result<SortedVisit<'_>, AllocError> {
+        let first = self.input1.visit_sorted(alloc, dir)?;
+        if matches!(first, SortedVisit::AllRecursively) {
+            return Ok(first);
+        }
+        let second = self.input2.visit_sorted(alloc, dir)?;
+        union_sorted(first, second)
     }
 }
 

@@ -5,7 +5,7 @@ ghost use Rattle.std.specs.List.{AllZip, zip};
 ghost use Rattle.jj_paths.specs.Names.{path_of};
 ghost use Rattle.jj_paths.specs.Paths.{Path};
 ghost use Rattle.jj_matchers.specs.Patterns.{HasSamePatterns};
-ghost use Rattle.jj_matchers.specs.Visits.{visit_spec};
+ghost use Rattle.jj_matchers.specs.SortedVisits.{sorted_visit_spec};
 ghost use Rattle.jj_matchers.specs.MarkWalk.{WalksMarks};
 ghost use Rattle.jj_program.specs.declared.file_set.SetOp.{SetOp};
 ghost use Rattle.jj_program.specs.WalkCommand.{SetTree, both, leaf_spec, spec_of};
@@ -14,8 +14,8 @@ ghost use Rattle.jj_program.specs.SetCode.{op_of, set_of, IsAlike, IsAlikeOp, ma
 use crate::file_set::{Combination, SetLine, SetOp, SetStack, SetWord, compile, evaluate};
 use jj_matchers::matchers::{
     EverythingMatcher, FilesMatcher, GlobsMatcher, MarkWalk, Matcher, NothingMatcher,
-    PathGlobPattern, PrefixMatcher, Visit, difference_visit, intersection_visit, union_visit,
-    walk_marks,
+    PathGlobPattern, PrefixMatcher, SortedMatcher, SortedVisit, Visit, difference_sorted,
+    intersection_sorted, union_sorted, walk_marks,
 };
 use jj_paths::repo_path::RepoPath;
 use std::alloc::{AllocError, Global};
@@ -52,12 +52,22 @@ impl Matcher for FileSet {
     }
 
     fn visit(&self, alloc: Global, dir: RepoPath<'_>) -> Result<Visit, AllocError> {
+        self.visit_sorted(alloc, dir)?.to_visit(alloc)
+    }
+}
+
+impl SortedMatcher for FileSet {
+    fn visit_sorted(
+        &self,
+        alloc: Global,
+        dir: RepoPath<'_>,
+    ) -> Result<SortedVisit<'_>, AllocError> {
         match self {
-            FileSet::Everything => EverythingMatcher.visit(alloc, dir),
-            FileSet::Nothing => NothingMatcher.visit(alloc, dir),
-            FileSet::Files(matcher) => matcher.visit(alloc, dir),
-            FileSet::Prefix(matcher) => matcher.visit(alloc, dir),
-            FileSet::Globs(matcher) => matcher.visit(alloc, dir),
+            FileSet::Everything => EverythingMatcher.visit_sorted(alloc, dir),
+            FileSet::Nothing => NothingMatcher.visit_sorted(alloc, dir),
+            FileSet::Files(matcher) => matcher.visit_sorted(alloc, dir),
+            FileSet::Prefix(matcher) => matcher.visit_sorted(alloc, dir),
+            FileSet::Globs(matcher) => matcher.visit_sorted(alloc, dir),
         }
     }
 }
@@ -123,13 +133,27 @@ impl Matcher for SetMatcher {
     }
 
     fn visit(&self, alloc: Global, dir: RepoPath<'_>) -> Result<Visit, AllocError> {
+        self.visit_sorted(alloc, dir)?.to_visit(alloc)
+    }
+}
+
+impl SortedMatcher for SetMatcher {
+    fn visit_sorted(
+        &self,
+        alloc: Global,
+        dir: RepoPath<'_>,
+    ) -> Result<SortedVisit<'_>, AllocError> {
         visit_by(alloc, &self.code, dir)
     }
 }
 
 // The visit of a directory, on a stack of the visits of operands.
-fn visit_by(alloc: Global, code: &[SetOp<FileSet>], dir: RepoPath<'_>) -> Result<Visit, AllocError>
-    ensures { IfOk result (λ visit. visit_spec visit
+fn visit_by<'a>(
+    alloc: Global,
+    code: &'a [SetOp<FileSet>],
+    dir: RepoPath<'_>,
+) -> Result<SortedVisit<'a>, AllocError>
+    ensures { IfOk result (λ visit. sorted_visit_spec visit
         ≡ (spec_of (made_by code.now)).visits (path_of dir.entry)) }
 {
     let mut visits = Vec::new(alloc);
@@ -140,61 +164,67 @@ fn visit_by(alloc: Global, code: &[SetOp<FileSet>], dir: RepoPath<'_>) -> Result
     }
     match visits.pop() {
         Some(visit) => Ok(visit),
-        None => Ok(Visit::Nothing),
+        None => Ok(SortedVisit::Nothing),
     }
 }
 
-fn visit_op(
+fn visit_op<'a>(
     alloc: Global,
-    visits: &mut Vec<Visit>,
-    op: &SetOp<FileSet>,
+    visits: &mut Vec<SortedVisit<'a>>,
+    op: &'a SetOp<FileSet>,
     dir: RepoPath<'_>,
 ) -> Result<(), AllocError>
     ensures { IfOk result (λ done. (earlier : List (SetOp FileSet))
-        → map visit_spec (reverse visits.old.items) ≡ visits_at (path_of dir.entry) earlier
-        → map visit_spec (reverse visits.new.items)
+        → map sorted_visit_spec (reverse visits.old.items)
+        ≡ visits_at (path_of dir.entry) earlier
+        → map sorted_visit_spec (reverse visits.new.items)
         ≡ visits_at (path_of dir.entry) (op.now ∷ earlier)) }
 {
     match op {
         SetOp::Test(set) => {
-            let visit = set.visit(alloc, dir)?;
+            let visit = set.visit_sorted(alloc, dir)?;
             visits.push(visit)?;
             Ok(())
         }
         SetOp::ShortCircuit(_) => Ok(()),
-        SetOp::Combine(combination) => combine_top(visits, *combination),
+        SetOp::Combine(combination) => combine_top(alloc, visits, *combination),
     }
 }
 
 // Replaces the top two visits by their combination.
-fn combine_top(visits: &mut Vec<Visit>, combination: Combination) -> Result<(), AllocError>
+fn combine_top(
+    alloc: Global,
+    visits: &mut Vec<SortedVisit<'_>>,
+    combination: Combination,
+) -> Result<(), AllocError>
     ensures { IfOk result (λ done. (dir : Path) (earlier : List (SetOp FileSet))
-        → map visit_spec (reverse visits.old.items) ≡ visits_at dir earlier
-        → map visit_spec (reverse visits.new.items)
+        → map sorted_visit_spec (reverse visits.old.items) ≡ visits_at dir earlier
+        → map sorted_visit_spec (reverse visits.new.items)
         ≡ visits_at dir (SetOp.Combine combination ∷ earlier)) }
 {
     if let Some(second) = visits.pop() {
         if let Some(first) = visits.pop() {
-            visits.push(combined_visit(combination, first, second)?)?;
+            visits.push(combined_visit(alloc, combination, first, second)?)?;
         }
     }
     Ok(())
 }
 
-fn combined_visit(
+fn combined_visit<'a>(
+    alloc: Global,
     combination: Combination,
-    first: Visit,
-    second: Visit,
-) -> Result<Visit, AllocError>
+    first: SortedVisit<'a>,
+    second: SortedVisit<'a>,
+) -> Result<SortedVisit<'a>, AllocError>
     ensures { IfOk result (λ visit. (dir : Path) (one two : SetTree FileSet)
-        → visit_spec first ≡ (spec_of one).visits dir
-        → visit_spec second ≡ (spec_of two).visits dir
-        → visit_spec visit ≡ (spec_of (both combination one two)).visits dir) }
+        → sorted_visit_spec first.entry ≡ (spec_of one).visits dir
+        → sorted_visit_spec second.entry ≡ (spec_of two).visits dir
+        → sorted_visit_spec visit ≡ (spec_of (both combination one two)).visits dir) }
 {
     match combination {
-        Combination::Union => union_visit(first, second),
-        Combination::Difference => Ok(difference_visit(first, second)),
-        Combination::Intersection => Ok(intersection_visit(first, second)),
+        Combination::Union => union_sorted(first, second),
+        Combination::Difference => Ok(difference_sorted(first, second)),
+        Combination::Intersection => intersection_sorted(alloc, first, second),
     }
 }
 

@@ -1,27 +1,20 @@
-use Rattle.std.proofs.Common.{sym, ◌∙◌}
+use Rattle.std.proofs.Common.{◌≡◌, refl, ◌∙◌}
 use Rattle.std.proofs.lemmas.Result.{IfOk-weaker}
 use Rattle.jj_paths.specs.Names.{path_of}
-use Rattle.jj_matchers.specs.VisitSpecs.{nothing}
+use Rattle.jj_matchers.specs.declared.matchers.visits.Visit.{Visit}
+use Rattle.jj_matchers.specs.SortedVisits.{sorted_visit_spec}
 use Rattle.jj_matchers.specs.Visits.{visit_spec}
-use Rattle.jj_matchers.specs.Marks.{marked_paths}
 use Rattle.jj_matchers.proofs.MentionedNames.{files_visit}
-use Rattle.jj_matchers.proofs.Marks.{files_are, no_files_are}
 use Rattle.jj_matchers.proofs.matchers.files_matcher.FilesMatcherMatcher.visit.Goals as goal
 
-pub returns-in-Some : goal.returns-in-Some
-returns-in-Some c =
-    let dir = path_of c.args.dir in
-    let marks = marked_paths c.self.inside.tree in
+pub returns : goal.returns
+returns c =
     let files = c.args.self.now in
-    let are = files_are c.self.inside.tree c.self.invariant dir c.in-Some.node.now (sym c.in-Some.ensures) in
+    let dir = path_of c.args.dir in
+    let known = c.in_ok-compute_visit.ensures in
+    let visited = λ (visit : Visit) (is : visit_spec visit ≡ sorted_visit_spec c.in_ok-compute_visit.field-0). files_visit files files dir (visit_spec visit) refl (is ∙ known) in
     record {
-      visit = IfOk-weaker _ _ _ (λ visit is. (files_visit marks files dir (visit_spec visit) c.self.view_is (is ∙ are)).0) c.visit_children.ensures;
-      sound = IfOk-weaker _ _ _ (λ visit is. (files_visit marks files dir (visit_spec visit) c.self.view_is (is ∙ are)).1) c.visit_children.ensures;
-      names = IfOk-weaker _ _ _ (λ visit is. (files_visit marks files dir (visit_spec visit) c.self.view_is (is ∙ are)).2) c.visit_children.ensures;
+      visit = IfOk-weaker c.to_visit.result _ _ (λ visit is. (visited visit is).0) c.to_visit.ensures;
+      sound = IfOk-weaker c.to_visit.result _ _ (λ visit is. (visited visit is).1) c.to_visit.ensures;
+      names = IfOk-weaker c.to_visit.result _ _ (λ visit is. (visited visit is).2) c.to_visit.ensures;
     }
-
-pub returns-in-None : goal.returns-in-None
-returns-in-None c =
-    let visited = files_visit (marked_paths c.self.inside.tree) c.args.self.now (path_of c.args.dir) nothing c.self.view_is
-    (no_files_are c.self.inside.tree c.self.invariant (path_of c.args.dir) (sym c.in-None.ensures)) in
-    record { visit = visited.0; sound = visited.1; names = tt }

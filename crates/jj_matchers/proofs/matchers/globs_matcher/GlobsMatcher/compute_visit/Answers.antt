@@ -1,7 +1,7 @@
 use Rattle.std.proofs.Common.{false, sym, ap, ◌∙◌}
 use Rattle.std.proofs.lemmas.Result.{IfOk-weaker}
 use Rattle.jj_paths.specs.Names.{path_of}
-use Rattle.jj_matchers.specs.Visits.{visit_spec}
+use Rattle.jj_matchers.specs.SortedVisits.{sorted_visit_spec}
 use Rattle.jj_matchers.proofs.PatternSound.{uncovered_spec, visit_is}
 use Rattle.jj_matchers.proofs.PatternTrees.{children_are, no_children_are}
 use Rattle.jj_matchers.proofs.matchers.globs_matcher.GlobsMatcher.compute_visit.Goals as goal
@@ -13,7 +13,7 @@ returns-in-Some c =
     ∙ ap (λ s. uncovered_spec s dir) c.self.view_is
     ∙ visit_is c.args.self.now false false dir (sym c.covers.ensures ∙ c.if-covers.false)
     (sym c.has_patterns_above.ensures ∙ c.if-has_patterns_above.false) in
-    IfOk-weaker c.visit_directories.result _ _ (λ visit is. ◌∙◌ {a = visit_spec visit} is are) c.visit_directories.ensures
+    IfOk-weaker c.visit_directories.result _ _ (λ visit is. ◌∙◌ {a = sorted_visit_spec visit} is are) c.visit_directories.ensures
 
 pub returns-in-None : goal.returns-in-None
 returns-in-None c =

@@ -1,39 +1,20 @@
-use Rattle.std.proofs.Common.{◌≡◌, true, false, refl, sym, ap, ◌∙◌}
+use Rattle.std.proofs.Common.{◌≡◌, refl, ◌∙◌}
 use Rattle.std.proofs.lemmas.Result.{IfOk-weaker}
 use Rattle.jj_paths.specs.Names.{path_of}
-use Rattle.jj_matchers.specs.VisitSpecs.{all_recursively, nothing}
+use Rattle.jj_matchers.specs.declared.matchers.visits.Visit.{Visit}
+use Rattle.jj_matchers.specs.SortedVisits.{sorted_visit_spec}
 use Rattle.jj_matchers.specs.Visits.{visit_spec}
-use Rattle.jj_matchers.specs.PathLists.{has_prefix}
-use Rattle.jj_matchers.specs.Marks.{marked_paths}
 use Rattle.jj_matchers.proofs.MentionedNames.{prefixes_visit}
-use Rattle.jj_matchers.proofs.Marks.{prefixes_are, no_prefixes_are}
-use Rattle.jj_matchers.proofs.PathLists.{prefix_inside}
 use Rattle.jj_matchers.proofs.matchers.prefix_matcher.PrefixMatcherMatcher.visit.Goals as goal
 
-pub returns-then-matches-clause-sound : goal.returns-then-matches-clause-sound
-returns-then-matches-clause-sound c =
+pub returns : goal.returns
+returns c =
     let prefixes = c.args.self.now in
     let dir = path_of c.args.dir in
-    let inside : has_prefix prefixes dir ≡ true = sym c.matches.ensures ∙ c.if-matches.true in
-    (prefixes_visit prefixes prefixes dir all_recursively refl (prefix_inside prefixes dir inside)).1
-
-pub returns-in-Some : goal.returns-in-Some
-returns-in-Some c =
-    let marks = marked_paths c.self.inside.tree in
-    let prefixes = c.args.self.now in
-    let dir = path_of c.args.dir in
-    let outside : has_prefix marks dir ≡ false = ap (λ paths. has_prefix paths dir) c.self.view_is ∙ sym c.matches.ensures ∙ c.if-matches.false in
-    let are = prefixes_are c.self.inside.tree c.self.invariant dir c.in-Some.node.now (sym c.in-Some.ensures) outside in
+    let known = c.in_ok-compute_visit.ensures in
+    let visited = λ (visit : Visit) (is : visit_spec visit ≡ sorted_visit_spec c.in_ok-compute_visit.field-0). prefixes_visit prefixes prefixes dir (visit_spec visit) refl (is ∙ known) in
     record {
-      visit = IfOk-weaker _ _ _ (λ visit is. (prefixes_visit marks prefixes dir (visit_spec visit) c.self.view_is (is ∙ are)).0) c.visit_children.ensures;
-      sound = IfOk-weaker _ _ _ (λ visit is. (prefixes_visit marks prefixes dir (visit_spec visit) c.self.view_is (is ∙ are)).1) c.visit_children.ensures;
-      names = IfOk-weaker _ _ _ (λ visit is. (prefixes_visit marks prefixes dir (visit_spec visit) c.self.view_is (is ∙ are)).2) c.visit_children.ensures;
+      visit = IfOk-weaker c.to_visit.result _ _ (λ visit is. (visited visit is).0) c.to_visit.ensures;
+      sound = IfOk-weaker c.to_visit.result _ _ (λ visit is. (visited visit is).1) c.to_visit.ensures;
+      names = IfOk-weaker c.to_visit.result _ _ (λ visit is. (visited visit is).2) c.to_visit.ensures;
     }
-
-pub returns-in-None : goal.returns-in-None
-returns-in-None c =
-    let marks = marked_paths c.self.inside.tree in
-    let dir = path_of c.args.dir in
-    let outside : has_prefix marks dir ≡ false = ap (λ prefixes. has_prefix prefixes dir) c.self.view_is ∙ sym c.matches.ensures ∙ c.if-matches.false in
-    let visited = prefixes_visit marks c.args.self.now dir nothing c.self.view_is (no_prefixes_are c.self.inside.tree c.self.invariant dir (sym c.in-None.ensures) outside) in
-    record { visit = visited.0; sound = visited.1; names = tt }

@@ -1,25 +1,20 @@
-use Rattle.std.proofs.Common.{◌≡◌, ◌∙◌, ap, subst, sym}
+use Rattle.std.proofs.Common.{◌∙◌, subst, sym}
 use Rattle.std.proofs.lemmas.Result.{IfOk-weaker}
 use Rattle.jj_paths.specs.Names.{path_of}
 use Rattle.jj_matchers.specs.VisitSpecs.{IsSound}
 use Rattle.jj_matchers.specs.MentionedNames.{MentionsOnly}
-use Rattle.jj_matchers.specs.declared.matchers.visits.Visit.{Visit}
 use Rattle.jj_matchers.specs.Visits.{visit_spec}
 use Rattle.jj_program.specs.SetCode.{made_by}
 use Rattle.jj_program.specs.WalkCommand.{spec_of}
-use Rattle.jj_program.proofs.SetVisits.{visited}
 use Rattle.jj_program.proofs.file_set.matcher.SetMatcherMatcher.visit.Goals as goal
 
 pub returns : goal.returns
 returns c =
-    let set = made_by c.args.self.now.code.items in
-    let spec = spec_of set in
+    let spec = spec_of (made_by c.args.self.now.code.items) in
     let dir = path_of c.args.dir in
-    let result = c.visit_by.result in
-    let is : (visit : Visit) → visit_spec visit ≡ (spec_of (made_by c.deref.result.now)).visits dir → visit_spec visit ≡ spec.visits dir = λ visit h. h ∙ ap (λ l. (spec_of (made_by l)).visits dir) c.deref.ensures.value in
-    let weaker = IfOk-weaker result (λ visit. visit_spec visit ≡ (spec_of (made_by c.deref.result.now)).visits dir) in
+    let known = c.in_ok-visit_sorted.ensures in
     record {
-      visit = weaker (λ visit. visit_spec visit ≡ spec.visits dir) is c.visit_by.ensures;
-      sound = weaker (λ visit. IsSound spec.accepts spec.opens dir (visit_spec visit)) (λ visit h. subst (IsSound spec.accepts spec.opens dir) (sym (is visit h)) (visited dir set).0) c.visit_by.ensures;
-      names = weaker (λ visit. MentionsOnly spec.names (visit_spec visit)) (λ visit h. subst (MentionsOnly spec.names) (sym (is visit h)) (visited dir set).1) c.visit_by.ensures;
+      visit = IfOk-weaker c.to_visit.result _ _ (λ visit is. ◌∙◌ {a = visit_spec visit} is known.visit) c.to_visit.ensures;
+      sound = IfOk-weaker c.to_visit.result _ _ (λ visit is. subst (IsSound spec.accepts spec.opens dir) {y = visit_spec visit} (sym is) known.sound) c.to_visit.ensures;
+      names = IfOk-weaker c.to_visit.result _ _ (λ visit is. subst (MentionsOnly spec.names) {y = visit_spec visit} (sym is) known.names) c.to_visit.ensures;
     }

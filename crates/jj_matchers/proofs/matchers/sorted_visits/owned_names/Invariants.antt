@@ -1,0 +1,9 @@
+use Rattle.std.proofs.Common.{◌≡◌, ◌||◌}
+use Rattle.jj_paths.specs.Paths.{Name}
+use Rattle.jj_matchers.specs.Visits.{is_among}
+use Rattle.jj_matchers.specs.SortedVisits.{is_named}
+use Rattle.jj_matchers.proofs.matchers.sorted_visits.owned_names.Given as goal
+
+-- the names so far and the remaining ones are all names
+abbrev pub invariant-loop-name : goal.invariant-loop-name
+invariant-loop-name l = (name : Name) → (is_among l.owned.keys name || is_named l.name-iterator name) ≡ is_named l.names.keys name
