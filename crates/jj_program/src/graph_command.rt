@@ -183,7 +183,8 @@ pub(crate) fn graph_output(alloc: Global, text: &str) -> Result<Vec<u8>, Fault>
     if requests.is_empty() {
         return Ok(Vec::new(alloc));
     }
-    let graph = ListedGraph::new(alloc, edges, requested_ids(alloc, &requests)?)?;
+    let requested = requested_ids(alloc, &requests)?;
+    let graph = ListedGraph::new(alloc, edges, &requested)?;
     let mut visited = Visited::new(alloc);
     let cyclic = has_cycle(alloc, &graph)?;
     let mut output = String::new(alloc);

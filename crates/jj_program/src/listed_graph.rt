@@ -31,12 +31,12 @@ impl ListedGraph {
     pub(crate) fn new(
         alloc: Global,
         edges: Edges,
-        requested: Vec<u64>,
+        requested: &[u64],
     ) -> Result<ListedGraph, AllocError>
         ensures graph { IfOk result (λ graph. shown_by graph ≡ graph_of (listed_by edges)) }
-        ensures requested { IfOk result (λ graph. All (Contains (named_by graph)) requested.items) }
+        ensures requested { IfOk result (λ graph. All (Contains (named_by graph)) requested.now) }
     {
-        let numbering = Numbering::new(alloc, edges.limit(), &requested, edges.targets())?;
+        let numbering = Numbering::new(alloc, edges.limit(), requested, edges.targets())?;
         let targets = numbering.numbers_of(alloc, edges.targets())?;
         let parts = edges.parts_of(alloc, numbering.ids())?;
         Ok(ListedGraph {

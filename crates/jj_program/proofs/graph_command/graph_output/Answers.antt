@@ -30,15 +30,16 @@ loop-request-preserved c =
 
 pub push_result-requires-clause-named : goal.push_result-requires-clause-named
 push_result-requires-clause-named c =
-    let requested = c.in_ok-requested_ids.field-0.items in
+    let requested = c.in_ok-requested.requested.items in
     let ids = named_by c.in_ok-graph.graph in
     let request = c.request-item.result in
     let requests = c.deref-request-items.result.now in
     let same : c.deref.result.now ≡ requests = c.deref.ensures.value ∙ sym c.deref-request-items.ensures.value in
     let here : Contains requests request = (c.loop-request.request-index, omega arith, sym c.request-item.is) in
     let held : All (Contains requested) (ids_of (graph_request_of request)) =
-    All-contains (λ other. All (Contains requested) (ids_of (graph_request_of other))) requests request (subst (All (λ other. All (Contains requested) (ids_of (graph_request_of other)))) same c.in_ok-requested_ids.ensures) here in
-    All-weaker (Contains requested) (Contains ids) (λ id among. All-contains (Contains ids) requested id c.in_ok-graph.ensures.requested among) (ids_of (graph_request_of request)) held
+    All-contains (λ other. All (Contains requested) (ids_of (graph_request_of other))) requests request (subst (All (λ other. All (Contains requested) (ids_of (graph_request_of other)))) same c.in_ok-requested.ensures) here in
+    let numbered : All (Contains ids) requested = subst (All (Contains ids)) c.deref-2.ensures.value c.in_ok-graph.ensures.requested in
+    All-weaker (Contains requested) (Contains ids) (λ id among. All-contains (Contains ids) requested id numbered among) (ids_of (graph_request_of request)) held
 
 pub returns-clause-done : goal.returns-clause-done
 returns-clause-done c =

@@ -19,7 +19,3 @@ pub numbers_of-requires : goal.numbers_of-requires
 numbers_of-requires c =
     let names = c.in_ok-numbering.numbering.ids.items in
     subst (All (Contains names)) (sym c.targets-2.ensures) (subst (All (Contains names)) c.targets.ensures c.in_ok-numbering.ensures.targets)
-
-pub returns-clause-requested : goal.returns-clause-requested
-returns-clause-requested c =
-    subst (All (Contains c.in_ok-numbering.numbering.ids.items)) c.deref.ensures.value c.in_ok-numbering.ensures.requested
