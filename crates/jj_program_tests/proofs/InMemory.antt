@@ -11,7 +11,7 @@ use Rattle.jj_program.specs.declared.program.Command.{Command}
 use Rattle.jj_program.specs.declared.program.Command.TheVariants.{Walk}
 use Rattle.jj_program.specs.LineFaults.{FaultsAreOfFirstKinds}
 use Rattle.jj_program.specs.Program.{ReadsToResult, FailsBy, HasResult, HasResultOnText, WritesOutput}
-use Rattle.jj_program_tests.specs.Answered.{CanFailBy, IsFaultOfWalk, IsRunOf}
+use Rattle.jj_program_tests.specs.Outputs.{CanFailBy, IsFaultOfWalk, IsRunOf}
 
 -- a source that was read to its end was consumed whole
 read_all : (input read : List ℕ) (after : Option (List ℕ)) → Consumes (Some input) after read → IsAtEnd after → read ≡ input

@@ -1,7 +1,7 @@
 //! Proved callers: running a command on an input in memory.
 ghost use Rattle.std.specs.Prelude.{◌≡◌, [], IfErr, IfOk, MatchOption, Ok, map, string_bytes};
 ghost use Rattle.jj_program.specs.Program.{HasResult, command_line};
-ghost use Rattle.jj_program_tests.specs.Answered.{CanFailBy, FindsFiles, IsFaultOfWalk, IsRunOf};
+ghost use Rattle.jj_program_tests.specs.Outputs.{CanFailBy, FindsFiles, IsFaultOfWalk, IsRunOf};
 
 use jj_files::file_util::Watched;
 use jj_program::laws::{faults_are_of_first_kinds, walks_find_their_files};
@@ -9,7 +9,7 @@ use jj_program::program::{Command, Fault, run, start};
 use std::alloc::Global;
 
 /// Returns the output of a command for these bytes.
-pub fn answered(alloc: Global, command: Command, input: &[u8]) -> Result<Vec<u8>, Fault>
+pub fn output_of(alloc: Global, command: Command, input: &[u8]) -> Result<Vec<u8>, Fault>
     ensures done { IfOk result (λ output. HasResult command input.now (Ok output.items)) }
     ensures fails { IfErr result (CanFailBy command input.now) }
 {
@@ -27,13 +27,13 @@ pub fn found_files(alloc: Global, text: &str) -> Result<Vec<u8>, Fault>
 {
     walks_find_their_files();
     faults_are_of_first_kinds();
-    answered(alloc, Command::Walk, text.as_bytes())
+    output_of(alloc, Command::Walk, text.as_bytes())
 }
 
 /// Runs the program with these arguments on these bytes, and returns the exit status and the
 /// output. The status is 2, without output, if the arguments are no command; 0 if the output is
 /// that of the command; otherwise 1.
-pub fn started(alloc: Global, words: &[String], input: &[u8]) -> (u8, Vec<u8>)
+pub fn run_program(alloc: Global, words: &[String], input: &[u8]) -> (u8, Vec<u8>)
     ensures { MatchOption (command_line (map string_bytes words.now))
         ((result.0 ≡ 2) × (result.1.items ≡ []))
         (λ command. IsRunOf command input.now result.0 result.1.items) }

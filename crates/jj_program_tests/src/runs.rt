@@ -77,8 +77,8 @@ pub fn reads_fail(rt: &(impl Abort + AllocGlobal), command: Command, input: &str
             let (result, kept) = outcome(rt.alloc(), command, input.as_bytes(), most, reads, 1000);
             let lasts = usize::try_from(reads).is_ok_and(|reads| reads > needed);
             let is_done = is_done(rt, result, lasts, Fault::ReadInput);
-            let wanted = if is_done { output } else { "" };
-            assert_eq!(rt; kept.as_slice(), wanted.as_bytes(), "{most} {reads}");
+            let expected = if is_done { output } else { "" };
+            assert_eq!(rt; kept.as_slice(), expected.as_bytes(), "{most} {reads}");
         }
     }
 }

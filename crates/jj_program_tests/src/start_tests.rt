@@ -48,7 +48,7 @@ mod tests {
     }
 
     #[test]
-    fn failed_reads_and_writes_are_said(rt: HostRuntime) {
+    fn failed_reads_and_writes_are_reported(rt: HostRuntime) {
         let Ok(word) = String::from_str(rt.alloc(), "walk") else {
             return;
         };

@@ -3,7 +3,7 @@ use Rattle.std.proofs.lemmas.Result.{err_from_is_err_and}
 use denote.Ref.{Bor}
 use Rattle.jj_files.specs.WatchedFields.{watched_inner}
 use Rattle.jj_program_tests.proofs.InMemory.{wrote, failed, fails_at}
-use Rattle.jj_program_tests.proofs.callers.answered.Goals as goal
+use Rattle.jj_program_tests.proofs.callers.output_of.Goals as goal
 
 pub returns-clause-done : goal.returns-clause-done
 returns-clause-done c =

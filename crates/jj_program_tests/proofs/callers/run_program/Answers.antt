@@ -5,7 +5,7 @@ use denote.Ref.{Bor}
 use Rattle.jj_files.specs.WatchedFields.{watched_inner}
 use Rattle.jj_program.specs.Program.{command_line}
 use Rattle.jj_program_tests.proofs.InMemory.{ends}
-use Rattle.jj_program_tests.proofs.callers.started.Goals as goal
+use Rattle.jj_program_tests.proofs.callers.run_program.Goals as goal
 
 pub returns : goal.returns
 returns c =
