@@ -18,7 +18,7 @@ fn file<B: Backend>(alloc: Global, store: &mut B, contents: &str) -> Result<Tree
     })
 }
 
-// Writes a directory of files, given by their names and contents.
+// Writes a directory of files with these names and contents.
 fn write_directory<B: Backend>(
     alloc: Global,
     store: &mut B,

@@ -19,7 +19,7 @@ use std::process::ExitCode;
 
 const USAGE: u8 = 2;
 
-// Runs a command, given by the words after the name of the database. Returns what it prints, or
+// Runs the command that is named after the database. Returns its output, or
 // `None` if there is no such command.
 fn run<B: Backend>(
     alloc: Global,
