@@ -35,3 +35,4 @@ pub mod ClosureGraphs
 pub mod NodeGraphs
 pub mod ListNumbers
 pub mod SortedResults
+pub mod ArrayGraphs

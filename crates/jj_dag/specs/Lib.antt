@@ -22,3 +22,5 @@ pub mod DenseSets
 pub mod HeadsSearch
 pub mod PackedLists
 pub mod NodeGraph
+pub mod ArrayGraphs
+pub mod SoundNodes

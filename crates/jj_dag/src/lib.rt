@@ -3,6 +3,7 @@
 #![tactic(auto)]
 
 mod all_ok;
+pub mod array_graph;
 mod closest_common;
 pub mod closures;
 mod collect_ok;
@@ -17,6 +18,6 @@ mod maximal;
 mod maximal_lists;
 pub mod node_map;
 pub mod node_set;
-mod packed_lists;
+pub mod packed_lists;
 mod topo_order;
 pub mod walk_error;

@@ -1,5 +1,6 @@
 //! Lists of numbers that are stored one after another in one array.
 ghost use Rattle.std.specs.Prelude.{◌≡◌, ◌≤◌, ◌<◌, ◌++◌, ◌∷◌, [], All, OnOk, length, slice_index_or};
+ghost use Rattle.std.specs.List.{Contains};
 
 use std::alloc::{AllocError, Global};
 
@@ -16,6 +17,7 @@ pub struct PackedLists {
 }
 
 impl PackedLists {
+    ghost use Rattle.std.specs.Prelude.{ℕ};
     ghost use Rattle.jj_dag.specs.PackedLists.{lists_of, open_list_of};
 
     /// Creates it without complete lists. The open list is empty.
@@ -40,6 +42,16 @@ impl PackedLists {
         Ok(())
     }
 
+    /// Appends a complete list. Fails if memory runs out.
+    pub fn push_list(&mut self, list: &[usize]) -> Result<(), AllocError>
+        requires { open_list_of self.old ≡ [] }
+        ensures lists { OnOk result (lists_of self.new ≡ lists_of self.old ++ list.now ∷ []) }
+        ensures open_list { OnOk result (open_list_of self.new ≡ []) }
+    {
+        self.numbers.extend_from_slice(list)?;
+        self.finish_list()
+    }
+
     /// Completes the open list and opens an empty one. Fails if memory runs out.
     pub fn finish_list(&mut self) -> Result<(), AllocError>
         ensures lists { OnOk result (lists_of self.new
@@ -50,6 +62,22 @@ impl PackedLists {
         self.parts.push((self.open_start, end))?;
         self.open_start = end;
         Ok(())
+    }
+
+    /// Returns the number of complete lists.
+    pub fn len(&self) -> usize
+        ensures { result ≡ length (lists_of self.now) }
+    {
+        self.parts.len()
+    }
+
+    /// Returns the numbers of all lists.
+    pub fn numbers(&self) -> &[usize]
+        ensures { (index number : ℕ)
+            → Contains (slice_index_or (lists_of self.now) index []) number
+            → Contains result.now number }
+    {
+        &self.numbers
     }
 
     /// Returns the complete list at this index.
