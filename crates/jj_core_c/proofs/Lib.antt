@@ -3,6 +3,5 @@ mod Flattened
 mod TermMerges
 mod ResolvedTerms
 mod Flags
-mod WalkResults
-mod Targets
 mod TreeWalks
+mod GraphResults

@@ -1,10 +1,11 @@
 -- Graphs in two arrays, and the causes of errors of walks over them.
 -- Cited by contracts of public items: AreAscendingCommon, AreAscendingHeads, AreBelow,
 -- IsAcyclicGraph, IsWalkCause, WritesFound, graph_of.
-use Rattle.std.specs.Prelude.{◌≡◌, ◌<◌, ◌⊎◌, ℕ, List, [], length, true, false, slice_get, unwrap_or, All, ⊤}
+use Rattle.std.specs.Prelude.{◌≡◌, ◌<◌, ◌⊎◌, ℕ, List, [], length, true, false, get_or, All, ⊤}
 use Rattle.std.specs.List.Sorted.{IsStrictlyIncreasing}
+use Rattle.jj_dag.specs.ArrayGraphs.{HasCycle}
 use Rattle.jj_dag.specs.CommonNodes.{AreClosestCommon}
-use Rattle.jj_dag.specs.Graph.{AreMaximalElements, Graph, StrictlyReaches}
+use Rattle.jj_dag.specs.Graph.{AreMaximalElements, Graph}
 use Rattle.jj_core_c.specs.declared.error.Error.{Error}
 use Rattle.jj_core_c.specs.declared.error.Error.TheVariants.{Memory, Ends, Length, Node, Cycle}
 use Rattle.jj_core_c.specs.Buffers.{Writes}
@@ -12,11 +13,7 @@ use Rattle.jj_core_c.specs.Pieces.{are_ends, pieces_of}
 
 -- the graph in which a node has the targets that the piece at its index lists
 abbrev pub graph_of : (targets ends : List ℕ) → Graph
-graph_of targets ends node = unwrap_or (slice_get (pieces_of targets ends) node) []
-
--- some node is strictly reachable from itself
-abbrev pub HasCycle : Graph → Type 0
-HasCycle graph = (node : ℕ) × StrictlyReaches graph node node
+graph_of targets ends node = get_or (pieces_of targets ends) node []
 
 -- all are nodes of a graph with n nodes
 abbrev pub AreBelow : ℕ → List ℕ → Type 0

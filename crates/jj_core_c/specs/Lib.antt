@@ -12,4 +12,3 @@ pub mod FilesetResults
 pub mod GlobResults
 pub mod TreeWalks
 pub mod ArrayGraphs
-pub mod GraphViews

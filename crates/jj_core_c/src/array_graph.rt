@@ -1,47 +1,26 @@
 //! Graphs in two arrays: the joined lists of targets, and the index at which each list ends.
-ghost use Rattle.std.specs.Prelude.{◌≡◌, ◌<◌, length, All, IsTrue, ◌↔◌, true};
-ghost use Rattle.jj_core_c.specs.ArrayGraphs.{graph_of};
-ghost use Rattle.jj_core_c.specs.Pieces.{are_ends};
+ghost use Rattle.std.specs.Prelude.{◌≡◌, ◌<◌, length, All, IfOk, IsTrue, ◌↔◌, true};
+ghost use Rattle.jj_core_c.specs.Pieces.{are_ends, pieces_of};
 
 use crate::pieces::piece_at;
+use jj_dag::array_graph::ArrayGraph;
+use jj_dag::packed_lists::PackedLists;
+use std::alloc::{AllocError, Global};
 
-// Node `n` has the `n`-th list of targets.
-#[derive(Clone, Copy)]
-pub(crate) struct ArrayGraph<'a> {
-    targets: &'a [usize],
-    ends: &'a [usize],
-    ghost divided: { are_ends (length targets.now) ends.now ≡ true },
-}
-
-impl<'a> ArrayGraph<'a> {
-    ghost use Rattle.std.specs.Prelude.{ℕ, Contains};
-    ghost use Rattle.jj_core_c.specs.GraphViews.{graph_in};
-
-    pub(crate) fn new(targets: &'a [usize], ends: &'a [usize]) -> ArrayGraph<'a>
-        requires { are_ends (length targets.now) ends.now ≡ true }
-        ensures { graph_in result ≡ graph_of targets.now ends.now }
-    {
-        ArrayGraph { targets, ends }
+// Returns the graph in which node `n` has the `n`-th list of targets.
+pub(crate) fn graph_of(
+    alloc: Global,
+    targets: &[usize],
+    ends: &[usize],
+) -> Result<ArrayGraph, AllocError>
+    requires { are_ends (length targets.now) ends.now ≡ true }
+    ensures { IfOk result (λ graph. graph ≡ pieces_of targets.now ends.now) }
+{
+    let mut lists = PackedLists::new(alloc);
+    for index in 0..ends.len() {
+        lists.push_list(piece_at(targets, ends, index))?;
     }
-
-    // Returns the targets of all nodes.
-    pub(crate) fn all_targets(&self) -> &'a [usize]
-        ensures { (node target : ℕ) → Contains (graph_in self.now node) target
-            → Contains result.now target }
-    {
-        self.targets
-    }
-
-    // Returns the targets of a node; none if it is out of range.
-    pub(crate) fn targets_of(&self, node: usize) -> &'a [usize]
-        ensures { result.now ≡ graph_in self.now node }
-    {
-        if node < self.ends.len() {
-            piece_at(self.targets, self.ends, node)
-        } else {
-            &[]
-        }
-    }
+    Ok(ArrayGraph::new(lists))
 }
 
 // Returns whether all nodes are below `len`.

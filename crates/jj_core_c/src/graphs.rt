@@ -1,27 +1,25 @@
 //! Graphs: topological orders, heads, and closest common nodes.
 ghost use Rattle.std.specs.Prelude.{◌≡◌, length, MatchResult};
+ghost use Rattle.jj_dag.specs.ArrayGraphs.{HasCycle};
 ghost use Rattle.jj_dag.specs.Graph.{IsGreatestTopologicalOrder};
-ghost use Rattle.jj_core_c.specs.ArrayGraphs.{AreArrays, AreAscendingCommon, AreAscendingHeads, AreBelow, HasCycle, IsAcyclicGraph, IsGraphCause, IsWalkCause, WritesFound, graph_of};
+ghost use Rattle.jj_core_c.specs.ArrayGraphs.{AreArrays, AreAscendingCommon, AreAscendingHeads, AreBelow, IsAcyclicGraph, IsGraphCause, IsWalkCause, WritesFound, graph_of};
 ghost use Rattle.jj_core_c.specs.Buffers.{Fails};
-ghost use Rattle.jj_core_c.specs.GraphViews.{graph_in};
+ghost use Rattle.jj_core_c.specs.Pieces.{pieces_of};
 ghost use Rattle.jj_core_c.specs.Statuses.{Accepts, Returns};
 
-use crate::array_graph::{ArrayGraph, are_all_nodes, are_nodes};
+use crate::array_graph::{are_all_nodes, are_nodes, graph_of};
 use crate::buffers::write_indices;
 use crate::error::{Error, status_of};
 use crate::pieces::are_ends;
-use crate::walks::{ascending_common, ascending_heads, greatest_order, has_cycle};
+use jj_dag::array_graph::{ArrayGraph, Visited};
+use jj_dag::walk_error::WalkError;
 use std::alloc::Global;
 
 // Checks the arrays of a graph, and that it is acyclic.
-fn acyclic_graph<'a>(
-    alloc: Global,
-    targets: &'a [usize],
-    ends: &'a [usize],
-) -> Result<ArrayGraph<'a>, Error>
+fn acyclic_graph(alloc: Global, targets: &[usize], ends: &[usize]) -> Result<ArrayGraph, Error>
     ensures { MatchResult result
-        (λ graph. (graph_in graph ≡ graph_of targets.now ends.now)
-        × (¬ (HasCycle (graph_in graph))) × AreArrays targets.now ends.now)
+        (λ graph. (graph ≡ pieces_of targets.now ends.now)
+        × (¬ (HasCycle (graph_of targets.now ends.now))) × AreArrays targets.now ends.now)
         (IsGraphCause targets.now ends.now) }
 {
     if !are_ends(targets.len(), ends) {
@@ -30,12 +28,11 @@ fn acyclic_graph<'a>(
     if !are_nodes(ends.len(), targets) {
         return Err(Error::Node);
     }
-    let graph = ArrayGraph::new(targets, ends);
-    match has_cycle(alloc, &graph) {
-        Ok(false) => Ok(graph),
-        Ok(true) => Err(Error::Cycle),
-        Err(_) => Err(Error::Memory),
+    let graph = graph_of(alloc, targets, ends)?;
+    if graph.has_cycle(alloc)? {
+        return Err(Error::Cycle);
     }
+    Ok(graph)
 }
 
 fn write_order(
@@ -59,7 +56,13 @@ fn write_order(
     if !are_nodes(ends.len(), nodes) {
         return Err(Error::Node);
     }
-    let found = greatest_order(alloc, &graph, nodes)?;
+    let found = match graph.greatest_order(alloc, &mut Visited::new(alloc), nodes) {
+        Ok(found) => found,
+        Err(error) => match error {
+            WalkError::Node(_) => return Err(Error::Cycle),
+            WalkError::Memory => return Err(Error::Memory),
+        },
+    };
     if order.len() < found.len() {
         return Err(Error::Length);
     }
@@ -87,7 +90,7 @@ fn write_heads(
     if !are_nodes(ends.len(), nodes) {
         return Err(Error::Node);
     }
-    let found = ascending_heads(alloc, &graph, nodes)?;
+    let found = graph.heads(alloc, &mut Visited::new(alloc), nodes)?;
     if heads.len() < found.len() {
         return Err(Error::Length);
     }
@@ -116,7 +119,7 @@ fn write_common(
     if !are_all_nodes(ends.len(), set1, set2) {
         return Err(Error::Node);
     }
-    let found = ascending_common(alloc, &graph, set1, set2)?;
+    let found = graph.closest_common_nodes(alloc, &mut Visited::new(alloc), set1, set2)?;
     if common.len() < found.len() {
         return Err(Error::Length);
     }

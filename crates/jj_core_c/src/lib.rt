@@ -15,4 +15,3 @@ mod merges;
 mod paths;
 mod pieces;
 mod tree_walks;
-mod walks;

@@ -1,16 +1,20 @@
-use Rattle.std.proofs.Common.{◌<◌, length, rules, subst}
+use Rattle.std.proofs.Common.{◌<◌, length, refl, rules, subst}
 use Rattle.std.specs.Prelude.{All}
-use Rattle.jj_dag.specs.Graph.{AreMaximalElements, Graph}
-use Rattle.jj_core_c.specs.ArrayGraphs.{HasCycle}
 use Rattle.jj_core_c.specs.Buffers.{Writes}
+use Rattle.jj_core_c.proofs.GraphResults.{heads_of}
 use Rattle.jj_core_c.proofs.graphs.write_heads.Goals as goal
+
+pub returns-then-heads-len : goal.returns-then-heads-len
+returns-then-heads-len c =
+    let valid = c.in_ok-graph.ensures in
+    let found = c.in_ok-found.found.items in
+    let less : length c.args.heads.now < length found = search rules in
+    ((found, heads_of _ _ _ valid.0 valid.1 c.args.nodes.now found c.in_ok-found.ensures.maximal c.in_ok-found.ensures.ascending, less), refl)
 
 pub returns : goal.returns
 returns c =
     let valid = c.in_ok-graph.ensures in
     let found = c.in_ok-found.found.items in
-    let acyclic = subst (λ (g : Graph). HasCycle g → ⊥) valid.0 valid.1 in
     let starts : All (λ node. node < length c.args.ends.now) c.args.nodes.now = search rules in
-    let heads = subst (λ (g : Graph). AreMaximalElements g c.args.nodes.now found) valid.0 c.in_ok-found.ensures.maximal in
     let written = subst (λ items. Writes c.args.heads.now c.write_indices.new.buffer items c.write_indices.result) c.deref.ensures.value c.write_indices.ensures in
-    (((valid.2, acyclic), starts), (found, (heads, c.in_ok-found.ensures.ascending), written))
+    (((valid.2, valid.1), starts), (found, heads_of _ _ _ valid.0 valid.1 c.args.nodes.now found c.in_ok-found.ensures.maximal c.in_ok-found.ensures.ascending, written))

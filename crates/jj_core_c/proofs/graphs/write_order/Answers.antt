@@ -1,16 +1,27 @@
-use Rattle.std.proofs.Common.{◌<◌, length, rules, subst}
+use Rattle.std.proofs.Common.{◌<◌, ℕ, List, [], get_or, length, refl, rules, subst}
 use Rattle.std.specs.Prelude.{All}
-use Rattle.jj_dag.specs.Graph.{Graph, IsGreatestTopologicalOrder}
-use Rattle.jj_core_c.specs.ArrayGraphs.{HasCycle}
+use Rattle.jj_dag.specs.Graph.{IsGreatestTopologicalOrder, StrictlyReaches}
+use Rattle.jj_dag.proofs.Errors.{node_says}
 use Rattle.jj_core_c.specs.Buffers.{Writes}
 use Rattle.jj_core_c.proofs.graphs.write_order.Goals as goal
+
+pub returns-in-Node : goal.returns-in-Node
+returns-in-Node c =
+    let node = c.in-Node.field-0 in
+    let k = node_says _ c.in-Err.error node c.in-Node.is c.in-Err.ensures.cycle in
+    ((node, subst (λ (lists : List (List ℕ)). StrictlyReaches (λ n. get_or lists n []) node node) c.in_ok-graph.ensures.0 k.1), refl)
+
+pub returns-then-order-len : goal.returns-then-order-len
+returns-then-order-len c =
+    let found = c.in-Ok.found.items in
+    let less : length c.args.order.now < length found = search rules in
+    ((found, subst (λ (lists : List (List ℕ)). IsGreatestTopologicalOrder (λ n. get_or lists n []) c.args.nodes.now found) c.in_ok-graph.ensures.0 c.in-Ok.ensures.order, less), refl)
 
 pub returns : goal.returns
 returns c =
     let valid = c.in_ok-graph.ensures in
-    let found = c.in_ok-found.found.items in
-    let acyclic = subst (λ (g : Graph). HasCycle g → ⊥) valid.0 valid.1 in
+    let found = c.in-Ok.found.items in
     let starts : All (λ node. node < length c.args.ends.now) c.args.nodes.now = search rules in
-    let order = subst (λ (g : Graph). IsGreatestTopologicalOrder g c.args.nodes.now found) valid.0 c.in_ok-found.ensures in
+    let order = subst (λ (lists : List (List ℕ)). IsGreatestTopologicalOrder (λ n. get_or lists n []) c.args.nodes.now found) valid.0 c.in-Ok.ensures.order in
     let written = subst (λ items. Writes c.args.order.now c.write_indices.new.buffer items c.write_indices.result) c.deref.ensures.value c.write_indices.ensures in
-    (((valid.2, acyclic), starts), (found, order, written))
+    (((valid.2, valid.1), starts), (found, order, written))
