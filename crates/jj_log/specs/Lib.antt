@@ -8,7 +8,6 @@ pub mod Drawing
 pub mod Orders
 pub mod Targets
 pub mod LogItems
-pub mod OkNumbers
 pub mod Numbering
 pub mod LogDrawings
 pub mod InputLines
