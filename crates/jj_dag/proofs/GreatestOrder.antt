@@ -1,21 +1,21 @@
 -- The order in which indices were taken is the greatest child-first order of the nodes at them.
-use Rattle.std.proofs.Common.{◌≡◌, ◌↔◌, ℕ, zero, suc, ◌<◌, ◌≤◌, true, false, Option, None, Some, IsSome, MatchOption, List, [], ◌∷◌, length, map, get_or, refl, sym, ◌∙◌, ap, subst, arith, inl, inr, ◌⊎◌, ⊎_elim}
+use Rattle.std.proofs.Common.{◌≡◌, ◌↔◌, ℕ, zero, suc, ◌<◌, ◌≤◌, true, false, Option, None, Some, IsSome, MatchOption, List, [], ◌∷◌, ◌++◌, length, map, get_or, refl, sym, ◌∙◌, ap, subst, arith, inl, inr, ◌⊎◌, ⊎_elim}
 use Rattle.std.specs.List.{Contains, filter_map, cons_option}
 use Rattle.std.proofs.lemmas.List.Elements.{Contains-append_cases, Contains-get_or}
 use Rattle.jj_dag.proofs.TakingReady.{only_one}
 use Rattle.std.specs.declared.cmp.Ordering.{Ordering}
-use Rattle.std.specs.Ordering.{is_lt, nat_cmp}
+use Rattle.std.specs.Ordering.{is_lt}
 use Rattle.std.proofs.lemmas.Bool.{cases_eq}
-use Rattle.std.proofs.lemmas.Bool.Decides.{nat_tests}
-use Rattle.std.proofs.lemmas.List.{length-map, get_or-map, get_or_past, get_or_default}
-use Rattle.jj_dag.specs.Graph.{HasEdge, ReachedFrom, IsAcyclicFrom, ReachesCycle, IsTopologicalOrder, IsGreatestTopologicalOrder}
+use Rattle.std.proofs.lemmas.List.{length-map, map-append, get_or-map, get_or_past, get_or_default}
+use Rattle.jj_dag.specs.Graph.{HasEdge, ReachedFrom, ReachesCycle, IsTopologicalOrder}
 use Rattle.jj_dag.specs.FallibleGraphs.{FallibleGraph, ok_graph}
-use Rattle.jj_dag.specs.Walk.{GraphModel, AreNodes, IsOrderedLike}
+use Rattle.jj_dag.specs.GreatestOrder.{IsGreatestOrder}
+use Rattle.jj_dag.specs.Walk.{GraphModel, AreNodes}
 use Rattle.jj_dag.specs.Collecting.{IsCollecting}
 use Rattle.jj_dag.specs.ReadyNodes.{TakesGreatestReady, IsStuck, IsNotBelow, index_graph}
 use Rattle.jj_dag.proofs.Reaching.{Contains-reached}
 use Rattle.jj_dag.proofs.Collecting.{are_nodes}
-use Rattle.jj_dag.proofs.ReadyOrders.{here, later, IsTopologicalOrder-from_taken, IsGreatest-from_taken, IsAcyclicFrom-from_child_first, cycle_from_stuck}
+use Rattle.jj_dag.proofs.ReadyOrders.{here, later, at_split, IsTopologicalOrder-from_taken, NotBelow-from_taken, IsAcyclicFrom-from_child_first, cycle_from_stuck}
 use Rattle.jj_dag.proofs.Relabelled.{Contains-map, AtPlaces, relabelled, StrictlyReaches-up}
 use Rattle.jj_dag.proofs.Plain.{nothing}
 
@@ -65,19 +65,27 @@ slots_present [] k lt = absurd (omega arith)
 slots_present (y ∷ ys) zero lt = refl
 slots_present (y ∷ ys) (suc k) lt = slots_present ys k (omega arith)
 
-not_lt : (a b : ℕ) → is_lt (nat_cmp a b) ≡ false → b ≤ a
-not_lt a b h = grind (arith, nat_tests)
-
 module _ {T ID E : Type 0} (w : GraphModel T ID) (items : FallibleGraph E) (cmp : T → T → Ordering) where
   slot_number : (visited : List T) (k : ℕ) (x : T) → get_or (map (λ x. Some x) visited) k None ≡ Some x → get_or (map w.node visited) k 0 ≡ w.node x
   slot_number [] k x e = absurd cc
   slot_number (y ∷ ys) zero x e = let q : y ≡ x = cc in ap w.node q
   slot_number (y ∷ ys) (suc k) x e = slot_number ys k x e
 
-  slot_value : (visited : List T) (k : ℕ) → k < length visited → (x : T) × (get_or (map (λ x. Some x) visited) k None ≡ Some x)
-  slot_value [] k lt = absurd (omega arith)
-  slot_value (y ∷ ys) zero lt = (y, refl)
-  slot_value (y ∷ ys) (suc k) lt = slot_value ys k (omega arith)
+  slot_below : (visited : List T) (k : ℕ) (x : T) → get_or (map (λ x. Some x) visited) k None ≡ Some x → k < length visited
+  slot_below [] k x e = absurd cc
+  slot_below (y ∷ ys) zero x e = omega arith
+  slot_below (y ∷ ys) (suc k) x e = let less = slot_below ys k x e in omega (arith, less)
+
+  -- the slot of a value that was taken
+  taken_slot : (visited vs : List T) (order : List ℕ) → map (λ x. Some x) vs ≡ map (λ k. get_or (map (λ x. Some x) visited) k None) order → (x : T) → Contains vs x → (k : ℕ) × (get_or (map (λ x. Some x) visited) k None ≡ Some x)
+  taken_slot visited [] order e x (i, less, is) = absurd (omega arith)
+  taken_slot visited (v ∷ vs) [] e x h = absurd cc
+  taken_slot visited (v ∷ vs) (k ∷ order) e x (zero, less, is) =
+      let h : Some v ≡ get_or (map (λ x. Some x) visited) k None = cc in
+      (k, sym h ∙ ap (λ y. Some y) is)
+  taken_slot visited (v ∷ vs) (k ∷ order) e x (suc i, less, is) =
+      let t : map (λ x. Some x) vs ≡ map (λ k. get_or (map (λ x. Some x) visited) k None) order = cc in
+      taken_slot visited vs order t x (i, omega arith, is)
 
   picked_numbers : (visited vs : List T) (order : List ℕ) → map (λ x. Some x) vs ≡ map (λ k. get_or (map (λ x. Some x) visited) k None) order → map w.node vs ≡ map (λ k. get_or (map w.node visited) k 0) order
   picked_numbers visited [] [] e = refl
@@ -140,23 +148,23 @@ module _ {T ID E : Type 0} (w : GraphModel T ID) (items : FallibleGraph E) (cmp 
           let same : length (map (λ x. Some x) visited) ≡ length ns = length-map visited (λ x. Some x) ∙ sym (length-map visited w.node) in
           relabelled w.graph ns ts collected.injective edges_stand within _ order (subst (λ (n : ℕ). TakesGreatestReady (index_graph ts) (λ k. k < n) (IsNotBelow cmp (map (λ x. Some x) visited)) order) same takes)
 
-      above : IsOrderedLike w cmp → (a b : ℕ) → Contains ns a → Contains ns b → AtPlaces w.graph ns ts collected.injective edges_stand within (IsNotBelow cmp (map (λ x. Some x) visited)) a b → b ≤ a
-      above ordered a b in_a in_b h =
+      -- the value at the first difference from another child-first list
+      not_below : (vs : List T) → map (λ x. Some x) vs ≡ map (λ k. get_or (map (λ x. Some x) visited) k None) order → (other : List ℕ) → IsTopologicalOrder w.graph starts other
+          → (front highs : List T) (x y : T) (lows : List ℕ) → vs ≡ front ++ x ∷ highs → Contains vs y → other ≡ map w.node front ++ w.node y ∷ lows → is_lt (cmp x y) ≡ false
+      not_below vs picked other o front highs x y lows e in_y f =
           let n : length ns ≡ length visited = length-map visited w.node in
-          let at_a : get_or ns in_a.0 0 ≡ a = get_or_default ns in_a.0 0 a in_a.1 ∙ in_a.2 in
-          let at_b : get_or ns in_b.0 0 ≡ b = get_or_default ns in_b.0 0 b in_b.1 ∙ in_b.2 in
-          let lt_a : in_a.0 < length ns = in_a.1 in
-          let lt_b : in_b.0 < length ns = in_b.1 in
-          let x = slot_value visited in_a.0 (omega arith) in
-          let y = slot_value visited in_b.0 (omega arith) in
-          let is_x : w.node x.0 ≡ a = sym (slot_number visited in_a.0 x.0 x.1) ∙ at_a in
-          let is_y : w.node y.0 ≡ b = sym (slot_number visited in_b.0 y.0 y.1) ∙ at_b in
-          let told = h in_a.0 in_b.0 lt_a lt_b at_a at_b x.0 y.0 x.1 y.1 in
-          let rank = ordered x.0 y.0 (rw is_x (is_node a in_a)) (rw is_y (is_node b in_b)) in
-          not_lt a b (rw (rank, is_x, is_y) at told)
+          let split : map (λ k. get_or ns k 0) order ≡ map w.node front ++ w.node x ∷ map w.node highs =
+          sym (picked_numbers visited vs order picked) ∙ ap (map w.node) e ∙ map-append w.node front (x ∷ highs) in
+          let told = NotBelow-from_taken w.graph starts (Contains ns) _ are_reached _ numbers_taken other o (map w.node front) (map w.node highs) lows (w.node x) (w.node y) split f in
+          let in_x : Contains vs x = subst (λ (l : List T). Contains l x) (sym e) (at_split front x highs) in
+          let at_x = taken_slot visited vs order picked x in_x in
+          let at_y = taken_slot visited vs order picked y in_y in
+          let less_x = slot_below visited at_x.0 x at_x.1 in
+          let less_y = slot_below visited at_y.0 y at_y.1 in
+          told at_x.0 at_y.0 (omega (arith, n, less_x)) (omega (arith, n, less_y)) (slot_number visited at_x.0 x at_x.1) (slot_number visited at_y.0 y at_y.1) x y at_x.1 at_y.1
 
       pub order_is : (vs : List T) → map (λ x. Some x) vs ≡ map (λ k. get_or (map (λ x. Some x) visited) k None) order → ((k : ℕ) → k < length (map (λ x. Some x) visited) → Contains order k)
-          → IsTopologicalOrder w.graph starts (map w.node vs) × IsAcyclicFrom w.graph starts × (IsOrderedLike w cmp → IsGreatestTopologicalOrder w.graph starts (map w.node vs))
+          → IsGreatestOrder cmp w starts vs
       order_is vs picked all =
           let same = picked_numbers visited vs order picked in
           let slots : length (map (λ x. Some x) visited) ≡ length ns = length-map visited (λ x. Some x) ∙ sym (length-map visited w.node) in
@@ -164,14 +172,13 @@ module _ {T ID E : Type 0} (w : GraphModel T ID) (items : FallibleGraph E) (cmp 
           let lt : h.0 < length ns = h.1 in
           let at : get_or ns h.0 0 ≡ a = get_or_default ns h.0 0 a h.1 ∙ h.2 in
           subst (λ (n : ℕ). Contains (map (λ k. get_or ns k 0) order) n) at (Contains-map (λ k. get_or ns k 0) order h.0 (all h.0 (omega arith))) in
-          let first : IsTopologicalOrder w.graph starts (map w.node vs) = rw same (IsTopologicalOrder-from_taken w.graph starts (Contains ns) _ are_reached _ numbers_taken taken) in (
-            first,
-            IsAcyclicFrom-from_child_first w.graph starts _ first,
-            λ ordered. record {
-              child_first = first;
-              greatest = rw same (IsGreatest-from_taken w.graph starts (Contains ns) _ are_reached _ numbers_taken (above ordered));
-            },
-          )
+          let first : IsTopologicalOrder w.graph starts (map w.node vs) = rw same (IsTopologicalOrder-from_taken w.graph starts (Contains ns) _ are_reached _ numbers_taken taken) in
+          record {
+            nodes = λ a h. are_nodes w items starts closed nodes a ((first.all a).0 h);
+            child_first = first;
+            no_cycle = IsAcyclicFrom-from_child_first w.graph starts _ first;
+            greatest = not_below vs picked;
+          }
 
     pub cycle_is : (order : List ℕ) (k : ℕ) → k < length (map (λ x. Some x) visited) → (Contains order k → ⊥) → IsStuck (index_graph ts) (λ k. k < length (map (λ x. Some x) visited)) order → ReachesCycle w.graph starts
     cycle_is order k lt out stuck =

@@ -27,15 +27,10 @@ module _ {T ID E : Type 0} (w : GraphModel T ID) (items : FallibleGraph E) (cmp 
   sizes : length ids ≡ length filled.visited
   sizes = length-map found.neighbor_ids.items (λ v. v.items) ∙ filled.ids
 
-  pub whole_order : r.1 ≡ None → IsGreatestOrder cmp w starts (map w.node r.0.items)
+  pub whole_order : r.1 ≡ None → IsGreatestOrder cmp w starts r.0.items
   whole_order none =
-      let o = order_is w items cmp starts find filled.visited ids (neighbor_indices find found) sound_graph closed nodes collected sizes indices filled.indices taken.0
-      (rw filled.nodes at taken.2) r.0.items (rw filled.nodes at taken.1) (rw (none, filled.nodes) at taken.3) in
-      record {
-        child_first = o.0;
-        no_cycle = o.1;
-        greatest = o.2;
-      }
+      order_is w items cmp starts find filled.visited ids (neighbor_indices find found) sound_graph closed nodes collected sizes indices filled.indices taken.0
+      (rw filled.nodes at taken.2) r.0.items (rw filled.nodes at taken.1) (rw (none, filled.nodes) at taken.3)
 
   pub beside_cycle : (x : T) → r.1 ≡ Some x → ReachedFrom w.graph starts (w.node x) × ReachesCycle w.graph starts
   beside_cycle x some =

@@ -15,6 +15,7 @@ pub mod PackedLists
 pub mod Collecting
 pub mod Relabelled
 pub mod GreatestOrder
+pub mod GreatestOrders
 pub mod Errors
 pub mod CommonStates
 pub mod StateSums

@@ -60,7 +60,7 @@ module _ {A : Type 0} (g : NodeGraph A) (number : A → ℕ) (id_of : ℕ → A)
   path_up (suc steps) a b (c, edge, rest) =
       (number c, subst (λ x. Contains (map number (g x)) (number c)) (sym (inverse a)) (Contains-map number (g a) c edge), path_up steps c b rest)
 
-  path_down : (steps : ℕ) (a : A) (b : ℕ) → IsWalkOfLength numbers_graph (number a) b steps → (y : A) × (b ≡ number y) × NodePath g a y steps
+  pub path_down : (steps : ℕ) (a : A) (b : ℕ) → IsWalkOfLength numbers_graph (number a) b steps → (y : A) × (b ≡ number y) × NodePath g a y steps
   path_down zero a b e = (a, sym e, refl)
   path_down (suc steps) a b (c, edge, rest) =
       let r = Contains-from_map number (g a) c (subst (λ x. Contains (map number (g x)) c) (inverse a) edge) in
@@ -76,7 +76,7 @@ module _ {A : Type 0} (g : NodeGraph A) (number : A → ℕ) (id_of : ℕ → A)
   strictly_back : (a b : A) → StrictlyReaches numbers_graph (number a) (number b) → StrictlyReachesNode g a b
   strictly_back a b (steps, p) = (steps, path_back (suc steps) a b p)
 
-  reached_up : (starts : List A) (b : A) → ReachesNode g starts b → ReachedFrom numbers_graph (map number starts) (number b)
+  pub reached_up : (starts : List A) (b : A) → ReachesNode g starts b → ReachedFrom numbers_graph (map number starts) (number b)
   reached_up starts b (a, from, (steps, p)) = (number a, Contains-map number starts a from, (steps, path_up steps a b p))
 
   pub reached_down : (starts : List A) (b : ℕ) → ReachedFrom numbers_graph (map number starts) b → (y : A) × (b ≡ number y) × ReachesNode g starts y

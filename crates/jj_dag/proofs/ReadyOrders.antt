@@ -1,6 +1,6 @@
 -- A list that takes the greatest ready node until all are taken is the greatest child-first list;
 -- where it gets stuck there is a cycle.
-use Rattle.std.proofs.Common.{◌≡◌, ◌≢◌, ◌<◌, ◌↔◌, ℕ, zero, suc, ◌+◌, ◌≤◌, true, false, List, [], ◌∷◌, ◌++◌, length, refl, sym, ◌∙◌, ap, subst, arith, eqb, inl, inr, ◌⊎◌, ⊎_elim, true≢false, append_assoc, length-append}
+use Rattle.std.proofs.Common.{◌≡◌, ◌≢◌, ◌↔◌, ℕ, zero, suc, ◌+◌, ◌≤◌, true, false, List, [], ◌∷◌, ◌++◌, length, refl, sym, ◌∙◌, ap, subst, arith, eqb, inl, inr, ◌⊎◌, ⊎_elim, true≢false, append_assoc, length-append}
 use Rattle.std.specs.List.{Contains, IsDistinct, AllByRecursion}
 use Rattle.std.proofs.lemmas.Bool.Decides.{Decides-eqb}
 use Rattle.std.proofs.lemmas.List.Elements.{Contains-append_left, Contains-append_right, Contains-append_cases, All-contains, All-from_recursion}
@@ -118,9 +118,8 @@ module _ (g : Graph) (starts : List ℕ) (IsNode : ℕ → Type 0) (NotBelow : �
       Contains_reached (suc n) a b h (c, edge, p) = Contains_reached n c b (node_edge a c h edge) p
 
   -- the node that another child-first list has at the first difference was ready too
-  pub IsGreatest-from_taken : (order : List ℕ) → TakesGreatestReady g IsNode NotBelow order → ((a b : ℕ) → IsNode a → IsNode b → NotBelow a b → b ≤ a) → (other : List ℕ) → IsTopologicalOrder g starts other → (front highs lows : List ℕ) (a b : ℕ) → order ≡ front ++ a ∷ highs → other ≡ front ++ b ∷ lows → a ≢ b → b < a
-  IsGreatest-from_taken order k ordered other o front highs lows a b e f ne =
-      let is_a = (k.ready front highs a e).0 in
+  pub NotBelow-from_taken : (order : List ℕ) → TakesGreatestReady g IsNode NotBelow order → (other : List ℕ) → IsTopologicalOrder g starts other → (front highs lows : List ℕ) (a b : ℕ) → order ≡ front ++ a ∷ highs → other ≡ front ++ b ∷ lows → NotBelow a b
+  NotBelow-from_taken order k other o front highs lows a b e f =
       let in_b : Contains other b = subst (λ (l : List ℕ). Contains l b) (sym f) (at_split front b lows) in
       let is_b = (nodes b).1 ((o.all b).0 in_b) in
       let ready_b : IsReady g IsNode front b = (
@@ -133,8 +132,7 @@ module _ (g : Graph) (starts : List ℕ) (IsNode : ℕ → Type 0) (NotBelow : �
             let s = o.before c b in_c (0, (b, edge, refl)) in
             stands_in_front other s.0 s.1 front lows c b o.once s.2 s.3 f,
       ) in
-      let le : b ≤ a = ordered a b is_a is_b (k.greatest front highs a b e ready_b) in
-      omega arith
+      k.greatest front highs a b e ready_b
 
 -- ---- where the order is stuck
 

@@ -1,14 +1,20 @@
 -- The greatest child-first order.
 -- Cited by contracts of public items: IsGreatestOrder.
-use Rattle.std.specs.Prelude.{ℕ, List}
+use Rattle.std.specs.Prelude.{◌≡◌, ℕ, List, ◌∷◌, ◌++◌, false, map}
+use Rattle.std.specs.List.{Contains}
+use Rattle.std.specs.Ordering.{is_lt}
 use Rattle.std.specs.declared.cmp.Ordering.{Ordering}
-use Rattle.jj_dag.specs.Graph.{IsAcyclicFrom, IsTopologicalOrder, IsGreatestTopologicalOrder}
-use Rattle.jj_dag.specs.Walk.{IsOrderedLike, GraphModel}
+use Rattle.jj_dag.specs.Graph.{IsAcyclicFrom, IsTopologicalOrder}
+use Rattle.jj_dag.specs.Walk.{AreNodes, GraphModel}
 
--- the list is child-first over what the starts reach, which has no cycle, and the greatest such
--- list where the nodes are numbered in their order
+-- the values are those of a child-first list of what the starts reach, which has no cycle; where
+-- another such list first differs, the value here is not less than that of the node there
 pub record IsGreatestOrder {T ID : Type 0} (cmp : T → T → Ordering) (walk : GraphModel T ID)
-    (starts order : List ℕ) : Type 0 where
-  pub child_first : IsTopologicalOrder walk.graph starts order
+    (starts : List ℕ) (order : List T) : Type 0 where
+  pub nodes : AreNodes walk (map walk.node order)
+  pub child_first : IsTopologicalOrder walk.graph starts (map walk.node order)
   pub no_cycle : IsAcyclicFrom walk.graph starts
-  pub greatest : IsOrderedLike walk cmp → IsGreatestTopologicalOrder walk.graph starts order
+  pub greatest : (other : List ℕ) → IsTopologicalOrder walk.graph starts other
+      → (prefix highs : List T) (x y : T) (lows : List ℕ) → order ≡ prefix ++ x ∷ highs
+      → Contains order y → other ≡ map walk.node prefix ++ walk.node y ∷ lows
+      → is_lt (cmp x y) ≡ false

@@ -59,3 +59,11 @@ pub record IsChildFirstOrder {A : Type 0} (g : NodeGraph A) (starts order : List
   pub all : (a : A) → Contains order a ↔ ReachesNode g starts a
   pub once : AllPairs (λ a b. a ≢ b) order
   pub before : (a b : A) → Contains order a → StrictlyReachesNode g a b → IsNodeBefore order a b
+
+-- the greatest such list: where another one first differs from it, the node there is below
+pub record IsGreatestChildFirstOrder {A : Type 0} (IsBelow : A → A → Type 0) (g : NodeGraph A)
+    (starts order : List A) : Type 0 where
+  pub child_first : IsChildFirstOrder g starts order
+  pub greatest : (other : List A) → IsChildFirstOrder g starts other
+      → (prefix highs lows : List A) (a b : A) → order ≡ prefix ++ a ∷ highs
+      → other ≡ prefix ++ b ∷ lows → a ≢ b → IsBelow b a

@@ -24,6 +24,7 @@ use Rattle.jj_walks.specs.declared.depth_first.DepthFirst.{DepthFirst}
 use Rattle.jj_walks.specs.declared.depth_first.DepthFirstOk.{DepthFirstOk}
 use Rattle.jj_walks.specs.declared.topo_order_lazy.TopoOrderReverseLazy.{TopoOrderReverseLazy}
 use Rattle.jj_dag.proofs.Errors.{if_fails, if_ok}
+use Rattle.jj_dag.proofs.GreatestOrders.{greatest_numbers}
 use Rattle.jj_dag.proofs.Plain.{nothing}
 use Rattle.jj_dag.proofs.Postorders.{Postorder-once, Postorder-reached, from_reverse}
 use Rattle.jj_dag.proofs.Reaching.{Contains-in_reverse, Contains-postorder, Postorder-gives}
@@ -115,8 +116,8 @@ in_graph_of_two {g = g} {set1} {set2} {P} first second implemented k =
 
 module _ {T ID E : Type 0} (graph : ClosureGraph T ID E) (start : Listing T E) where
   pub order_is_greatest : (cmp : T → T → Ordering) (made : T → E → Type 0) (r : Result (Vec T Global) (WalkError E)) → OrderIsGreatest graph start cmp made r
-  order_is_greatest cmp made r order error g starts defines yields acyclic ordered = (
-    if_ok r order (λ v k. (in_graph yields defines k).greatest ordered),
+  order_is_greatest cmp made r order error g starts defines yields acyclic = (
+    if_ok r order (λ v k. let greatest = in_graph yields defines k in (greatest, greatest_numbers cmp g starts v.items greatest)),
     if_fails r error (λ e. ⊎_elim (no_input_error yields defines) (no_cycle_error yields defines acyclic)),
   )
 

@@ -53,18 +53,20 @@ abbrev pub IsOkOrMemory : {V E : Type 0} → Result V (WalkError E) → (V → T
 IsOkOrMemory r P = IfOk r P × IfFails r (λ _. ⊥)
 
 module _ {T ID E : Type 0} (graph : ClosureGraph T ID E) (start : Listing T E) where
-  -- `topo_order_reverse_ord` over an acyclic graph: the lexicographically greatest topological
-  -- order of the nodes that the starts reach
+  -- `topo_order_reverse_ord` over an acyclic graph: the greatest topological order of the nodes
+  -- that the starts reach; the lexicographically greatest one if they are numbered in the order of
+  -- their values
   abbrev pub OrderIsGreatest : (T → T → Ordering) → (T → E → Type 0)
       → Result (Vec T Global) (WalkError E) → Type 0
   OrderIsGreatest cmp made r =
       IfOk r (λ v. InEachModel graph start (λ g starts.
-      IsGreatestOrder cmp g starts (map g.node v.items)))
+      IsGreatestOrder cmp g starts v.items))
       → IfFails r (λ e. IsInputError graph start e
       ⊎ IsMadeBesideCycle made graph start e)
       → (g : GraphModel T ID) (starts : List ℕ) → DefinesGraph g graph starts
-      → YieldsStarts g start starts → IsAcyclicFrom g.graph starts → IsOrderedLike g cmp
-      → IsOkOrMemory r (λ v. IsGreatestTopologicalOrder g.graph starts (map g.node v.items))
+      → YieldsStarts g start starts → IsAcyclicFrom g.graph starts
+      → IsOkOrMemory r (λ v. IsGreatestOrder cmp g starts v.items
+      × (IsOrderedLike g cmp → IsGreatestTopologicalOrder g.graph starts (map g.node v.items)))
 
   -- `topo_order_forward` over an acyclic graph: the reverse of a topological order
   abbrev pub OrderIsTopological : {K : Type 0} → (T → K → Type 0)

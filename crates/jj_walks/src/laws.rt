@@ -21,8 +21,9 @@ use std::alloc::AllocError;
 use std::convert::Infallible;
 use std::hash::Hash;
 
-/// Over an acyclic graph `topo_order_reverse_ord` returns the lexicographically greatest
-/// topological order of the nodes that the starts reach, or fails out of memory.
+/// Over an acyclic graph `topo_order_reverse_ord` returns the greatest topological order of the
+/// nodes that the starts reach, which is the lexicographically greatest one if they are numbered in
+/// the order of their values, or fails out of memory.
 pub fn topo_order_reverse_ord_is_greatest<T: Ord, ID: Hash + Eq, E, II, NI, F, N, C>()
 where
     II: IntoIterator<Item = Result<T, E>>,

@@ -5,6 +5,7 @@ use Rattle.std.proofs.lemmas.Result.{IfOk-weaker}
 use Rattle.jj_dag.specs.Graph.{IsGreatestTopologicalOrder}
 use Rattle.jj_dag.proofs.Collecting.{are_nodes}
 use Rattle.jj_dag.proofs.Errors.{node_says}
+use Rattle.jj_dag.proofs.GreatestOrders.{greatest_numbers}
 use Rattle.jj_program.specs.ListedGraphs.{named_by, shown_by}
 use Rattle.jj_program.specs.Parts.{id_of}
 use Rattle.jj_program.proofs.GraphClosures.{closed_over, implements_items, walk_over}
@@ -61,5 +62,5 @@ returns-in-Ok c =
     (nodes_among ids p.starts c.args.ids.now named c.requires.named) in
     let order = map (id_of ids) c.in-Ok.order.items in
     let greatest : IsGreatestTopologicalOrder (shown_by graph) c.args.ids.now order =
-    subst (λ from. IsGreatestTopologicalOrder (shown_by graph) from order) named (k.greatest (numbers_ordered (shown_by graph) ids graph.numbering.ascending)) in
+    subst (λ from. IsGreatestTopologicalOrder (shown_by graph) from order) named (greatest_numbers _ (walk_over graph) (map (id_of ids) p.starts) c.in-Ok.order.items k (numbers_ordered (shown_by graph) ids graph.numbering.ascending)) in
     IfOk-weaker c.ids_of.result _ _ (λ v is. subst (IsGreatestTopologicalOrder (shown_by graph) c.args.ids.now) (sym (is ∙ ap (map (id_of ids)) c.deref-in-Ok.ensures.value)) greatest) c.ids_of.ensures

@@ -45,8 +45,8 @@ returns g c = record {
       → MatchOption o (IsChunkOfMany walk.graph starts (map walk.node vs) (map walk.node left) × IsChunkOfAnyGraph walk.graph starts (map walk.node vs) (map walk.node left)) (λ x. ReachedFrom walk.graph starts (walk.node x) × ReachesCycle walk.graph starts)) [
         | None ↦ λ all.
             let o = order_is inner_walk items_inside g.T.Ord.cmp seen find visited ids_inside ts sound closed seen_nodes collected sizes_inside linked_inside p.0.indices q.0 (rw p.0.nodes at q.2) vs (rw p.0.nodes at q.1) (rw p.0.nodes at all) in
-            let begun = many_chunk walk items starts find left visited ids known implemented.closed nodes p.2 p.1 (map walk.node vs) o.0 in
-            let stretch = many_stretch walk items starts find left visited ids known implemented.closed nodes p.2 p.1 (map walk.node vs) o.0 in
+            let begun = many_chunk walk items starts find left visited ids known implemented.closed nodes p.2 p.1 (map walk.node vs) o.child_first in
+            let stretch = many_stretch walk items starts find left visited ids known implemented.closed nodes p.2 p.1 (map walk.node vs) o.child_first in
             (begun, stretch)
         | Some x ↦ λ stuck.
             let s = rw p.0.nodes at stuck in (

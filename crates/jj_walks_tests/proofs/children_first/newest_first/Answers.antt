@@ -1,5 +1,7 @@
 use Rattle.std.proofs.Common.{rules, of_calls, ◌≡◌, ◌∙◌, ap, map, Ok}
+use Rattle.jj_dag.specs.Walk.{AreNodes}
 use Rattle.jj_dag.proofs.Errors.{if_fails, if_ok}
+use Rattle.jj_dag.proofs.GreatestOrders.{greatest_numbers}
 use Rattle.jj_dag.proofs.Walkable.{walkable_by}
 use Rattle.jj_walks_tests.specs.Commits.{known_ids}
 use Rattle.jj_walks_tests.proofs.Numbering.{walk_of, walk_closed}
@@ -22,9 +24,11 @@ returns-clause-order c =
     let implemented = commits_implemented commits _ _ _ _ (λ a r f h. (search (rules, of_calls, h), search (rules, of_calls, h), search (rules, of_calls, h))) (λ x i h. search (rules, of_calls, h.says.met, h.shows)) in
     let first = p.holds (walk_of commits) implemented (rw yielded nodes) in
     let starts : map (ranked_walk commits).node p.starts ≡ map (to commits) (known_ids commits ids) = ranks_are commits p.starts (rw yielded nodes) ∙ ap (map (to commits)) yielded in
-    let ranked = p.holds (ranked_walk commits) (renumbered_implemented (walk_of commits) (to commits) (back commits) (unused commits) (undo commits) (free commits) _ _ _ _ implemented)
-    (rw starts (renumbered_nodes (walk_of commits) (to commits) (back commits) (unused commits) (undo commits) (free commits) (walk_closed commits) (known_ids commits ids) nodes)) in
-    newest_ids commits (known_ids commits ids) nodes order.items (rw yielded at first.child_first) (rw starts at ranked.greatest (commits_compare commits)))
+    let renumbered = renumbered_implemented (walk_of commits) (to commits) (back commits) (unused commits) (undo commits) (free commits) _ _ _ _ implemented in
+    let ranked_nodes : AreNodes (ranked_walk commits) (map (ranked_walk commits).node p.starts) = rw starts (renumbered_nodes (walk_of commits) (to commits) (back commits) (unused commits) (undo commits) (free commits) (walk_closed commits) (known_ids commits ids) nodes) in
+    let ranked = p.holds (ranked_walk commits) renumbered ranked_nodes in
+    let greatest = greatest_numbers _ (ranked_walk commits) _ order.items ranked (commits_compare commits) in
+    newest_ids commits (known_ids commits ids) nodes order.items (rw yielded at first.child_first) (rw starts at greatest))
 
 pub returns-clause-cycle : goal.returns-clause-cycle
 returns-clause-cycle c =

@@ -3,6 +3,7 @@ use Rattle.std.proofs.lemmas.Fn.{always_returns_same}
 use Rattle.std.proofs.lemmas.List.{map-id}
 use Rattle.jj_dag.specs.Graph.{IsAcyclicFrom, IsGreatestTopologicalOrder, ReachesCycle}
 use Rattle.jj_dag.proofs.Errors.{node_says}
+use Rattle.jj_dag.proofs.GreatestOrders.{greatest_numbers}
 use Rattle.jj_dag.specs.ArrayGraphs.{graph_of}
 use Rattle.jj_dag.proofs.ArrayGraphs.{implements_items, model_of, no_beginning, sound_nodes}
 use Rattle.jj_dag.proofs.array_graph.ArrayGraph.greatest_order.Goals as goal
@@ -39,7 +40,7 @@ returns-in-Ok-clause-order c =
     let k = p.holds (model_of graph)
     (implements_items graph _ _ _ (λ x i h. search (rules, of_calls, h.says.met, h.shows)) _ (λ a r f h. (search (rules, of_calls, h), search (rules, of_calls, h))))
     (λ a h. refl) in
-    let greatest = k.greatest (λ x y a b. refl) in
+    let greatest = greatest_numbers _ (model_of graph) (map (λ x. x) p.starts) c.in-Ok.order.items k (λ x y a b. refl) in
     subst (λ nodes. IsGreatestTopologicalOrder graph nodes c.in-Ok.order.items) starts
     (subst (λ order. IsGreatestTopologicalOrder graph (map (λ x. x) p.starts) order) (map-id c.in-Ok.order.items) greatest)
 
