@@ -2,11 +2,14 @@
 use Rattle.std.proofs.Common.{◌≡◌, ℕ, suc, ◌==◌, Bool, true, false, not, cond, List, [], ◌∷◌, ◌++◌, get_or, map, Option, Some, None, Result, Ok, Err, IfOk, refl, sym, ◌∙◌, ap, subst, true≢false, inl, inr, arith}
 use Rattle.std.specs.Prelude.{All, IfErr}
 use Rattle.std.specs.Bool.{one_answer}
+use Rattle.std.specs.Cmp.Lexicographic.{nat_list_cmp_total, slice_cmp}
+use Rattle.std.specs.Ordering.{is_eq, nat_cmp}
 use Rattle.std.specs.Str.{bytes_eq}
 use Rattle.std.specs.Fn.{Called, Mut, Shared}
 use Rattle.std.specs.Global.{Global}
 use Rattle.std.specs.List.{Contains}
 use Rattle.std.specs.declared.alloc.AllocError.{AllocError}
+use Rattle.std.specs.declared.cmp.Ordering.TheVariants.{Less}
 use Rattle.std.specs.declared.vec.Vec.{Vec}
 use Rattle.std.specs.declared.vec.IntoIter.{IntoIter}
 use Rattle.std.proofs.lemmas.Bool.Decides.{Decides-eqb}
@@ -15,6 +18,8 @@ use Rattle.std.proofs.lemmas.Iterator.{YieldsList}
 use Rattle.std.proofs.lemmas.Iterator.Adapters.{YieldsList-from_vec}
 use Rattle.std.specs.Vec.Iter.{into_iter_items, into_iter_len, into_iter_steps}
 use Rattle.std.proofs.lemmas.List.{get_or-map, length-map, map-append, map-id}
+use Rattle.std.proofs.lemmas.List.Elements.{All-contains}
+use Rattle.std.proofs.lemmas.Map.Text.{is_eq-slice_cmp}
 use Rattle.std.proofs.lemmas.Slice.Eq.{bytes_eq-Decides}
 use denote.Ref.{Bor}
 use Rattle.jj_backend.specs.Objects.{Objects}
@@ -25,10 +30,12 @@ use Rattle.jj_dag.specs.ClosureGraph.{Implements, MayReturn, ReturnsId, YieldsOk
 use Rattle.jj_dag.specs.CommonNodes.{AreClosestCommon, HasNoCommonCycle}
 use Rattle.jj_dag.specs.FallibleGraphs.{BeginsWith}
 use Rattle.jj_dag.specs.Graph.{Graph, IsAcyclicFrom, IsTopologicalOrder, ReachedFrom}
-use Rattle.jj_dag.specs.NodeGraph.{AreMaximalNodes, HasNoCommonNodeCycle, IsChildFirstOrder, IsCommonNode, ReachesNoCycle, ReachesNode}
+use Rattle.jj_dag.specs.GreatestOrder.{IsGreatestOrder}
+use Rattle.jj_dag.specs.NodeGraph.{IsGreatestChildFirstOrder, AreMaximalNodes, HasNoCommonNodeCycle, IsChildFirstOrder, IsCommonNode, ReachesNoCycle, ReachesNode}
 use Rattle.jj_dag.specs.Walk.{DrainsTo, GraphModel}
 use Rattle.jj_dag.proofs.ClosureGraphs.{may_return_says}
 use Rattle.jj_dag.proofs.FailingWalks.{begun_are}
+use Rattle.jj_dag.proofs.GreatestOrders.{greatest_nodes, less_back}
 use Rattle.jj_dag.proofs.ListNumbers.{list_of_number, list_of_number-number, number, number-not_zero}
 use Rattle.jj_dag.proofs.NodeGraphs.{Contains-from_map, child_first_nodes, closest_nodes, no_common_cycle_up, no_cycle_back, numbers_graph, one_node, reached_down, reaches_more}
 use Rattle.jj_dag.proofs.Walking.{drained_are}
@@ -228,6 +235,15 @@ module _ (may_fail : BackendError → Type 0) (store : Objects) where
         child_first_nodes parents number list_of_number list_of_number-number ids (map id_of xs) (subst (IsTopologicalOrder g (map number ids)) (stored_nodes xs stored) holds),
         stored,
       )
+
+  pub greatest_from : (parents : Parents) (ids : List (List ℕ)) (ns : List ℕ) (xs : List ReadCommit) → ns ≡ map number ids → IsGreatestOrder (λ a b. slice_cmp nat_cmp (id_of a) (id_of b)) (walk_of parents) ns xs
+      → IsGreatestChildFirstOrder (λ a b. slice_cmp nat_cmp a b ≡ Less) parents ids (map id_of xs)
+  greatest_from parents ids ns xs same k =
+      let holds : IsGreatestOrder (λ a b. slice_cmp nat_cmp (id_of a) (id_of b)) (walk_of parents) (map number ids) xs = subst (λ l. IsGreatestOrder (λ a b. slice_cmp nat_cmp (id_of a) (id_of b)) (walk_of parents) l xs) same k in
+      let (none, child, stored) = order_from parents ids (map number ids) xs refl holds.child_first holds.no_cycle in
+      greatest_nodes parents number list_of_number list_of_number-number (λ a b. slice_cmp nat_cmp (id_of a) (id_of b)) node_of id_of (λ a b. slice_cmp nat_cmp a b ≡ Less) ids xs holds.greatest
+      (λ x inside. stored_node x (All-contains (IsStored store) xs x stored inside))
+      (λ x y differ told. less_back nat_list_cmp_total (λ a b tied. (bytes_eq-Decides a b).0 (sym (is_eq-slice_cmp a b) ∙ ap is_eq tied)) (id_of x) (id_of y) differ told) child
 
   pub reached_from_both : (parents : Parents) (set1 set2 : List (List ℕ)) (ns1 ns2 : List ℕ) (b : ℕ) → ns1 ≡ map number set1 → ns2 ≡ map number set2 → ReachedFrom (id_graph parents) (ns1 ++ ns2) b
       → ReachedFrom (id_graph parents) (map number (set1 ++ set2)) b

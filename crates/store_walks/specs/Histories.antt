@@ -1,16 +1,20 @@
 -- The history of a store: its commits, with an edge from each to its parents.
 -- Cited by contracts of public items: AreFoundAncestors, AreHeadCommits, AreMergeBases,
--- IsErrorBelow, IsGroupedHistory, IsHistoryError, IsHistoryOrder, IsReadErrorBelow.
+-- IsErrorBelow, IsGreatestHistoryOrder, IsGroupedHistory, IsHistoryError, IsHistoryOrder,
+-- IsReadErrorBelow.
 use Rattle.std.specs.Prelude.{◌≡◌, ◌≢◌, ◌⊎◌, ℕ, List, All, AllPairs, None, Result, Some, map}
+use Rattle.std.specs.Cmp.Lexicographic.{slice_cmp}
 use Rattle.std.specs.List.{Contains}
+use Rattle.std.specs.Ordering.{nat_cmp}
 use Rattle.std.specs.Str.{bytes_eq}
+use Rattle.std.specs.declared.cmp.Ordering.TheVariants.{Less}
 use Rattle.std.specs.declared.result.Result.TheVariants.{Ok, Err}
 use Rattle.jj_backend.specs.Objects.{Objects}
 use Rattle.jj_backend.specs.Records.{CommitValue}
 use Rattle.jj_backend.specs.declared.backend.errors.BackendError.{BackendError}
 use Rattle.jj_backend.specs.declared.backend.errors.BackendError.TheVariants.{Memory}
 use Rattle.jj_dag.specs.FallibleGraphs.{ok_items}
-use Rattle.jj_dag.specs.NodeGraph.{AreMaximalNodes, HasNoCommonNodeCycle, IsChildFirstOrder, IsCommonNode, NodeGraph, ReachesNoCycle, ReachesNode, ReachesSomeCycle}
+use Rattle.jj_dag.specs.NodeGraph.{AreMaximalNodes, HasNoCommonNodeCycle, IsChildFirstOrder, IsCommonNode, IsGreatestChildFirstOrder, NodeGraph, ReachesNoCycle, ReachesNode, ReachesSomeCycle}
 use Rattle.jj_walks.specs.GroupedOrders.{IsGroupedOrder}
 use Rattle.store_walks.specs.Logs.{log_nodes}
 use Rattle.store_walks.specs.ReadCommits.{IsReadError, IsReadFailure, IsStored, id_of}
@@ -50,7 +54,13 @@ module _ (store : Objects) where
   IsHistoryOrder ids order = InEachHistory (λ parents. ReachesNoCycle parents ids
       × IsChildFirstOrder parents ids (map id_of order) × All (IsStored store) order)
 
-  -- such an order with branches together: each commit is followed by the last of its parents
+  -- the greatest such order: where another one first differs from it, the id there is less, byte by
+  -- byte
+  abbrev pub IsGreatestHistoryOrder : List (List ℕ) → List ReadCommit → Type 0
+  IsGreatestHistoryOrder ids order = InEachHistory (λ parents. IsGreatestChildFirstOrder
+      (λ a b. slice_cmp nat_cmp a b ≡ Less) parents ids (map id_of order))
+
+  -- a child-first order with branches together: each commit is followed by the last of its parents
   -- whose children all came before, if one is
   abbrev pub IsGroupedHistory : List (List ℕ) → List ReadCommit → Type 0
   IsGroupedHistory ids order = IsHistoryOrder ids order

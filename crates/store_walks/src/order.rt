@@ -3,7 +3,7 @@ ghost use Rattle.std.specs.Prelude.{IfOk, Result};
 ghost use Rattle.std.specs.Global.{Global};
 ghost use Rattle.std.specs.declared.vec.Vec.{Vec};
 ghost use Rattle.jj_dag.specs.Outcomes.{IfFails};
-ghost use Rattle.store_walks.specs.Histories.{IsHistoryError, IsHistoryOrder};
+ghost use Rattle.store_walks.specs.Histories.{IsGreatestHistoryOrder, IsHistoryError, IsHistoryOrder};
 ghost use Rattle.store_walks.specs.HistoryItems.{AreItemsOf, ReadsHistory};
 
 use crate::read_commit::{ReadCommit, read_all};
@@ -58,6 +58,8 @@ pub fn history_order<B: Backend>(
 ) -> Result<Vec<ReadCommit>, WalkError<HistoryError>>
     ensures order { IfOk result (λ order.
         IsHistoryOrder (B.objects store.now) ids.now order.items) }
+    ensures greatest { IfOk result (λ order.
+        IsGreatestHistoryOrder (B.objects store.now) ids.now order.items) }
     ensures error { IfFails result (IsHistoryError (B.objects store.now) (B.may_fail store.now)
         ids.now) }
 {
