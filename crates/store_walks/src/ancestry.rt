@@ -8,9 +8,9 @@ use jj_backend::backend::{Backend, BackendResult, CommitId};
 use jj_walks::dag_walk::collect_dfs_ok;
 use std::alloc::{AllocError, Global};
 
-/// Returns the ancestors of `ids`, each once, in depth-first preorder, with the error of each
-/// failed read. A failed read does not end the walk. Fails if memory runs out. Reads a commit for
-/// each id of `ids` and of the parents found.
+/// Returns the ancestors of `ids`, each once, with the error of each failed read. A failed read
+/// does not end the walk. Fails if memory runs out. Reads a commit for each id of `ids` and of the
+/// parents found.
 pub fn ancestors<B: Backend>(
     alloc: Global,
     store: &B,
