@@ -1,0 +1,10 @@
+use Rattle.std.proofs.Common.{rules, ap}
+use Rattle.jj_diff.specs.Inputs.{bytes_of, IsNonempty}
+use Rattle.jj_diff.proofs.Rows.{whole_one}
+use Rattle.jj_diff.proofs.diff.hunks.equal_hunks.Goals as goal
+
+pub returns-clause-diff : goal.returns-clause-diff
+returns-clause-diff c =
+    let nonempty : IsNonempty (bytes_of c.args.inputs.now) = search rules in
+    rw (c.in_ok-push.ensures.items, c.new-hunks.ensures.items)
+    (whole_one c.args.tokenizer (bytes_of c.args.inputs.now) _ (ap bytes_of c.in_ok-row.ensures.items) nonempty c.requires)

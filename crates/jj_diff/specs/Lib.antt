@@ -1,0 +1,4 @@
+-- in reading order
+pub mod Inputs
+pub mod Tokens
+pub mod Hunks

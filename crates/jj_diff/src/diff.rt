@@ -1,0 +1,32 @@
+//! Comparison of N byte strings as hunks that match in all of them or differ.
+ghost use Rattle.std.specs.Prelude.{IfOk};
+ghost use Rattle.jj_diff.specs.Inputs.{AreEqual, bytes_of};
+ghost use Rattle.jj_diff.specs.Hunks.{AllMatch, IsDiff};
+
+mod hunks;
+mod regions;
+mod search;
+mod tokens;
+
+pub use hunks::{DiffHunk, DiffHunkKind, MatchedRegion, hunks_of_regions};
+pub use regions::find_regions;
+use std::alloc::{AllocError, Global};
+pub use tokens::{Tokenizer, find_line_ends, find_word_ends};
+
+/// Compares the inputs line by line, each with input `base`.
+pub fn diff_by_line<'a>(
+    alloc: Global,
+    inputs: &[&'a [u8]],
+    base: usize,
+) -> Result<Vec<DiffHunk<'a>>, AllocError>
+    ensures diff { IfOk result (λ hunks. IsDiff Tokenizer.Lines (bytes_of inputs.now) hunks.items) }
+    ensures identity { IfOk result
+        (λ hunks. AreEqual (bytes_of inputs.now) → AllMatch hunks.items) }
+{
+    let mut ends = Vec::with_capacity(alloc, inputs.len())?;
+    for index in 0..inputs.len() {
+        ends.push(Tokenizer::Lines.find_ends(alloc, inputs[index])?)?;
+    }
+    let regions = find_regions(alloc, inputs, &ends, base)?;
+    hunks_of_regions(alloc, Tokenizer::Lines, inputs, &regions)
+}
