@@ -1,0 +1,150 @@
+-- Trivial resolution of borrowed byte strings, and of their bytes.
+use Rattle.std.proofs.Common.{◌≡◌, ◌≢◌, ℕ, ◌+◌, ◌<◌, ◌≤◌, ◌%◌, suc, zero, Bool, true, false, List, [], ◌∷◌, ◌++◌, length, map, take, get_or, Bor, refl, ap, sym, ◌∙◌, subst, arith, All, inl, inr, cond}
+use Rattle.std.proofs.lemmas.Int.{ints}
+use Rattle.std.proofs.lemmas.Slice.Eq.{bytes_eq-Decides}
+use Rattle.std.specs.Prelude.{count_by, pos, ◌-ℤ◌, ◌<ℤ◌}
+use Rattle.std.specs.Str.{bytes_eq}
+use Rattle.std.specs.List.{fold}
+use Rattle.std.proofs.lemmas.List.{take_more, take_all, length-map, append-nil}
+use Rattle.std.proofs.lemmas.List.Elements.{AllZip-push, All-map, All-nil, All-cons}
+use Rattle.jj_diff.specs.declared.diff.hunks.DiffHunk.{DiffHunk}
+use Rattle.jj_diff.specs.declared.diff.tokens.Tokenizer.TheVariants.{Lines}
+use Rattle.jj_diff.specs.Inputs.{bytes_of, side}
+use Rattle.jj_diff.specs.Tokens.{IsCut}
+use Rattle.jj_diff.proofs.Rows.{cut_whole}
+use Rattle.jj_diff.specs.Hunks.{row_of, IsDiff}
+use Rattle.jj_merges.specs.declared.merge.SameChange.{SameChange}
+use Rattle.jj_merges.specs.declared.merge.SameChange.TheVariants.{Keep, Accept}
+use Rattle.jj_merges.specs.Merge.{adds, removes, signed_count, IsOdd}
+use Rattle.jj_merges.specs.Resolution.{ResolvesTo}
+use Rattle.jj_content_merges.specs.declared.files.MergeHunk.{MergeHunk}
+use Rattle.jj_content_merges.specs.Files.{terms_of, IsOutcome, Outcomes, IsContentMerge}
+
+abbrev pub Text : Type 0
+Text = Bor (List ℕ)
+
+abbrev pub same_text : Text → Text → Bool
+same_text x y = bytes_eq x.now y.now
+
+abbrev pub text : List ℕ → Text
+text w = record { ref_ptr = (0, 0); now = w }
+
+mutual
+  adds-map : (m : List Text) → adds (bytes_of m) ≡ bytes_of (adds m)
+  adds-map [] = refl
+  adds-map (x ∷ xs) = ap (λ ys. x.now ∷ ys) (removes-map xs)
+
+  removes-map : (m : List Text) → removes (bytes_of m) ≡ bytes_of (removes m)
+  removes-map [] = refl
+  removes-map (x ∷ xs) = adds-map xs
+
+count-from : (v : Text) (a : ℕ) (xs : List Text)
+    → fold (λ s x. s + cond (same_text v x) 1 0) a xs ≡ fold (λ s x. s + cond (bytes_eq v.now x) 1 0) a (bytes_of xs)
+count-from v a [] = refl
+count-from v a (x ∷ xs) = count-from v (a + cond (bytes_eq v.now x.now) 1 0) xs
+
+count-bytes : (v : Text) (xs : List Text) → count_by (same_text v) xs ≡ count_by (bytes_eq v.now) (bytes_of xs)
+count-bytes v xs = count-from v 0 xs
+
+module _ (m : List Text) where
+  counts : (v : Text) → signed_count same_text m v ≡ signed_count bytes_eq (bytes_of m) v.now
+  counts v =
+      ap (λ n. pos n -ℤ pos (count_by (same_text v) (removes m))) (count-bytes v (adds m) ∙ ap (count_by (bytes_eq v.now)) (sym (adds-map m)))
+      ∙ ap (λ n. pos (count_by (bytes_eq v.now) (adds (bytes_of m))) -ℤ pos n) (count-bytes v (removes m) ∙ ap (count_by (bytes_eq v.now)) (sym (removes-map m)))
+
+  pub resolves_bytes : (same : SameChange) (v : Text) → ResolvesTo same_text same m v → ResolvesTo bytes_eq same (bytes_of m) v.now
+  resolves_bytes Keep v r = (sym (counts v) ∙ r.0, λ w ne. r.1 (text w) (λ e. ne (sym (counts (text w)) ∙ e)))
+  resolves_bytes Accept v r = (
+    subst (λ z. pos 0 <ℤ z) (counts v) r.0,
+    (λ w lt. r.1 (text w) (subst (λ z. pos 0 <ℤ z) (sym (counts (text w))) lt)),
+    (λ w x lt mt. r.2 (text w) (text x) (subst (λ z. z <ℤ pos 0) (sym (counts (text w))) lt) (subst (λ z. z <ℤ pos 0) (sym (counts (text x))) mt)),
+  )
+
+  pub resolves_texts : (same : SameChange) (w : List ℕ) → ResolvesTo bytes_eq same (bytes_of m) w → ResolvesTo same_text same m (text w)
+  resolves_texts Keep w r = (counts (text w) ∙ r.0, λ x ne. r.1 x.now (λ e. ne (counts x ∙ e)))
+  resolves_texts Accept w r = (
+    subst (λ z. pos 0 <ℤ z) (sym (counts (text w))) r.0,
+    (λ x lt. r.1 x.now (subst (λ z. pos 0 <ℤ z) (counts x) lt)),
+    (λ x y lt mt. r.2 x.now y.now (subst (λ z. z <ℤ pos 0) (counts x) lt) (subst (λ z. z <ℤ pos 0) (counts y) mt)),
+  )
+
+map-push : {A B : Type 0} (f : A → B) (xs : List A) (x : A) → map f (xs ++ x ∷ []) ≡ map f xs ++ f x ∷ []
+map-push f [] x = refl
+map-push f (y ∷ xs) x = ap (λ ys. f y ∷ ys) (map-push f xs x)
+
+-- one more hunk
+pub outcomes_push : (same : SameChange) (hs : List DiffHunk) (i : ℕ) (h : DiffHunk) (ms : List MergeHunk) (m : MergeHunk)
+    → i < length hs → h ≡ get_or hs i h
+    → Outcomes same (map row_of (take i hs)) (map terms_of ms) → IsOutcome same (row_of h) (terms_of m)
+    → Outcomes same (map row_of (take (i + 1) hs)) (map terms_of (ms ++ m ∷ []))
+outcomes_push same hs i h ms m lt e before here =
+    let rows : map row_of (take (i + 1) hs) ≡ map row_of (take i hs) ++ row_of h ∷ [] =
+    ap (map row_of) (take_more hs i h lt ∙ ap (λ x. take i hs ++ x ∷ []) (sym e)) ∙ map-push row_of (take i hs) h in
+    let terms : map terms_of (ms ++ m ∷ []) ≡ map terms_of ms ++ terms_of m ∷ [] = map-push terms_of ms m in
+    subst (λ xs. Outcomes same xs (map terms_of (ms ++ m ∷ []))) (sym rows)
+    (subst (λ ys. Outcomes same (map row_of (take i hs) ++ row_of h ∷ []) ys) (sym terms)
+    (AllZip-push (IsOutcome same) (map row_of (take i hs)) (map terms_of ms) (row_of h) (terms_of m) before here))
+
+pub length-bytes_of : (m : List Text) → length (bytes_of m) ≡ length m
+length-bytes_of m = length-map m (λ r. r.now)
+
+-- a comparison of an odd number of inputs has odd rows
+pub odd_rows : (inputs : List (List ℕ)) (hs : List DiffHunk) → IsDiff Lines inputs hs → IsOdd (length inputs)
+    → All (λ h. IsOdd (length h.contents.items)) hs
+odd_rows inputs hs diff odd k d lt =
+    subst IsOdd (sym (sym (length-bytes_of (get_or hs k d).contents.items) ∙ (diff.hunks k d lt).len)) odd
+
+take-map : (k : ℕ) (hs : List DiffHunk) → take k (map row_of hs) ≡ map row_of (take k hs)
+take-map zero hs = refl
+take-map (suc k) [] = refl
+take-map (suc k) (h ∷ hs) = ap (λ rows. row_of h ∷ rows) (take-map k hs)
+
+-- a single row ends where the inputs end
+whole_lines : (inputs : List (List ℕ)) (i k : ℕ)
+    → IsCut Lines (get_or inputs i []) (length (side i (take k (inputs ∷ []))))
+whole_lines inputs i zero = inl refl
+whole_lines inputs i (suc zero) =
+    subst (λ xs. IsCut Lines (get_or inputs i []) (length xs)) (sym (append-nil (get_or inputs i []))) (cut_whole Lines (get_or inputs i []))
+whole_lines inputs i (suc (suc k)) =
+    subst (λ xs. IsCut Lines (get_or inputs i []) (length xs)) (sym (append-nil (get_or inputs i []))) (cut_whole Lines (get_or inputs i []))
+
+pub content_merge : (same : SameChange) (inputs : List (List ℕ)) (hs : List DiffHunk) (ms : List MergeHunk)
+    → IsDiff Lines inputs hs → Outcomes same (map row_of hs) (map terms_of ms) → IsContentMerge same inputs ms
+content_merge same inputs hs ms diff outcomes = record {
+  rows = map row_of hs;
+  width = All-map (λ row. length row ≡ length inputs) row_of hs (λ k d lt. (diff.hunks k d lt).len);
+  sides = diff.sides;
+  lines = λ k i le lt.
+      subst (λ rows. IsCut Lines (get_or inputs i []) (length (side i rows))) (sym (take-map k hs))
+      (diff.cuts k i (subst (λ n. k ≤ n) (length-map hs row_of) le) lt);
+  outcomes = outcomes;
+}
+
+one_not_zero : pos 1 ≡ pos 0 → ⊥
+one_not_zero e = grind (arith, ints)
+
+-- a merge resolves to one value at most
+pub resolves_unique : (same : SameChange) (m : List (List ℕ)) (v w : List ℕ) → ResolvesTo bytes_eq same m v
+    → ResolvesTo bytes_eq same m w → v ≡ w
+resolves_unique Keep m v w r q =
+    (bytes_eq-Decides v w).0 (r.1 w (λ e. one_not_zero (sym q.0 ∙ e)))
+resolves_unique Accept m v w r q = (bytes_eq-Decides v w).0 (r.1 w q.0)
+
+-- the terms as one row
+pub whole_merge : (same : SameChange) (inputs : List (List ℕ)) (v : List ℕ) (ms : List MergeHunk)
+    → map terms_of ms ≡ (v ∷ []) ∷ [] → ResolvesTo bytes_eq same inputs v → IsContentMerge same inputs ms
+whole_merge same inputs v ms e r = record {
+  rows = inputs ∷ [];
+  width = All-cons (λ row. length row ≡ length inputs) inputs [] refl (All-nil (λ row. length row ≡ length inputs));
+  sides = λ i lt. append-nil (get_or inputs i []);
+  lines = λ k i le lt. whole_lines inputs i k;
+  outcomes = subst (Outcomes same (inputs ∷ [])) (sym e) (inl (v, refl, r), tt);
+}
+
+pub ruleset outcome_steps = (outcomes_push, take_all)
+
+pub ruleset row_steps = (resolves_bytes, resolves_texts)
+
+pub ruleset merge_steps = (odd_rows, content_merge, length-bytes_of)
+
+pub ruleset whole_steps = (whole_merge, resolves_unique, resolves_bytes, resolves_texts)
