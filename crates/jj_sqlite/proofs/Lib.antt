@@ -1,4 +1,5 @@
 pub mod LogTable
+pub mod Crashes
 pub mod RowErrors
 pub mod Replayed
 pub mod Reopened

@@ -1,5 +1,5 @@
 -- The effect of the three statements of a log on the rows of its table.
-use Rattle.std.proofs.Common.{◌≡◌, ◌∙◌, ◌⊎◌, inl, inr, ℕ, pos, negsuc, List, [], ◌∷◌, ◌++◌, map, codes, Bool, true, false, cond, not, ◌&&◌, ◌==◌, if◌then◌else◌, length, slice_index_or, Some, None, Option, Ok, Err, Result, IfOk, OnOk, IsTrue, refl, sym, ap, subst, subst₂}
+use Rattle.std.proofs.Common.{◌≡◌, ◌∙◌, ◌⊎◌, inl, inr, ℕ, pos, negsuc, List, [], ◌∷◌, ◌++◌, append-nil, map, codes, Bool, true, false, cond, not, ◌&&◌, ◌==◌, if◌then◌else◌, length, slice_index_or, Some, None, Option, Ok, Err, Result, IfOk, OnOk, IsTrue, refl, sym, ap, subst, subst₂}
 use Rattle.std.specs.List.{AllZip, flat_map}
 use Rattle.std.proofs.lemmas.List.{map-append}
 use Rattle.std.specs.List.Sorted.{IsPermutation}
@@ -31,14 +31,16 @@ use Rattle.sqlite.specs.Tree.{Trees, rowid, put_row}
 use Rattle.sqlite_tied.specs.Compute.{everything}
 use Rattle.sqlite.specs.declared.error.Error.{Error}
 use Rattle.sqlite.specs.Listing.{understood, reads_listing}
-use Rattle.sqlite.specs.Effect.{Database}
+use Rattle.sqlite.specs.Effect.{Database, IsDatabase}
 use Rattle.sqlite.specs.Clock.{timed}
-use Rattle.sqlite.specs.State.{State, mode_of, shows_rows, text_of, Writes, Runs, Executes, ExecutesIn, IsNotRun, IsRolledBack, IsUnchanged, Shown, ShowsRows}
-use Rattle.sqlite.proofs.Callers.{IsPlain, command_of, statement_of, runs_as, reads_as, one_step}
+use Rattle.sqlite_catalog.specs.Listing.{IsSound}
+use Rattle.sqlite.specs.State.{State, CommitsBy, MayCommit, CommitsShowing, mode_of, shows_rows, text_of, Writes, Runs, Executes, ExecutesIn, IsNotRun, IsRolledBack, IsUnchanged, Shown, ShowsRows}
+use Rattle.sqlite.proofs.Callers.{IsPlain, command_of, statement_of, runs_as, reads_as, one_step, never_commits}
 use Rattle.jj_mirror.specs.Entries.{LogEntryValue, kind_name}
 use Rattle.jj_mirror.specs.declared.object_log.ObjectKind.{ObjectKind}
 use Rattle.jj_mirror.specs.declared.object_log.ObjectKind.TheVariants.{File, Symlink, Copy, Tree, Commit}
 use Rattle.jj_sqlite.specs.Tables.{log_table, log_schema, create_statement, insert_statement, select_statement, entry_row, logged_columns, HasEntries, IsNewOrHas}
+use Rattle.jj_sqlite.specs.Crashes.{HasLog}
 use Rattle.jj_sqlite.specs.Rows.{IsEntryRow, IsGoodRow}
 
 -- ---- the commands that the statements are, by computation
@@ -163,6 +165,15 @@ cast_null : cast Integer Null ≡ Null
 unfolding unary
 cast_null = either _ Null
 
+-- the trees of a connection whose table has these entries
+pub logged : (s : State) (entries : List LogEntryValue) → HasEntries s entries → IsDatabase s.now → HasLog s.committed.trees entries
+logged s entries has sound =
+    let same : s.now.trees ≡ s.committed.trees = ap (λ (d : Database). d.trees) (sym has.committed) in
+    record {
+      sound = subst (λ (d : Trees). IsSound log_schema d) same (subst (λ k. IsSound k s.now.trees) has.schema sound);
+      rows = subst (λ (d : Trees). IsPermutation (map logged_columns (d 0)) (map entry_row entries)) same has.rows;
+    }
+
 -- a part of a statement that ended with a value did not stop on the way
 went : {B E R : Type 0} {b : B} {Stops : E → Type 0} → ((stop : E) × Stops stop × (Ok b ≡ Err stop)) ⊎ R → R
 went (inl stopped) = absurd (let e = stopped.2 in cc)
@@ -174,16 +185,16 @@ same_value e = cc
 abbrev new_row : List Row → LogEntryValue → Row
 new_row rows entry = Int (next_rowid rows) ∷ Null ∷ entry_row entry
 
--- an insertion adds the row of its entry
-inserted : (old new : State) (entry : LogEntryValue) (count : ℕ) (entries : List LogEntryValue) → HasEntries old entries → Executes insert_statement (entry_row entry) old new (Ok count)
-    → HasEntries new (entries ++ entry ∷ [])
-inserted old new entry count entries has h =
+-- an insertion makes the rows those of one more entry
+made : (old : State) (entry : LogEntryValue) (tally : Tally) (after : Database) (entries : List LogEntryValue) → HasEntries old entries
+    → Does old.step_limit (mode_of old) (entry_row entry) old.now (statement_of insert_statement (understood log_schema insert_statement)) None (Insert 0 (Values terms 5)) (Ok (tally, after))
+    → (after.schema ≡ log_schema) × IsPermutation (map logged_columns (after.trees 0)) (map entry_row (entries ++ entry ∷ []))
+made old entry tally after entries has does =
     let params = entry_row entry in
     let db = old.now.trees in
     let command = Insert 0 (Values terms 5) in
-    let w = runs_as insert_statement params old new log_schema has.schema command insert_is insert_plain count h in
     let text = statement_of insert_statement (understood log_schema insert_statement) in
-    let done = went (subst (λ s. Does old.step_limit (mode_of old) params (record old.now { schema = s }) text None command (Ok (w.tally, new.now))) has.schema w.changed) in
+    let done = went (subst (λ s. Does old.step_limit (mode_of old) params (record old.now { schema = s }) text None command (Ok (tally, after))) has.schema does) in
     let now = ap (λ (p : Tally × Database). p.1) (same_value (went (went done.2).2).2) in
     let given = went done.1 in
     let written = went (went given.2).2 in
@@ -192,19 +203,64 @@ inserted old new entry count entries has h =
     let applied = one_step log_schema _ db written.0 (edit_of db log_table [] Chosen 0 given.0) refl written.1 in
     let n = new_row (db 0) entry in
     let news : (edit_of db log_table [] Chosen 0 given.0).news ≡ n ∷ [] = ap (λ all. (edit_of db log_table [] Chosen 0 all).news) given.1.1 ∙ rw cast_null refl in
-    let table : new.now.trees 0 ≡ put_row n (db 0) = ap (λ (d : Database). d.trees 0) now ∙ ap (λ (t : Trees). t 0) trees ∙ applied.rows ∙ ap (λ all. put_all (db 0) all) news in
+    let table : after.trees 0 ≡ put_row n (db 0) = ap (λ (d : Database). d.trees 0) now ∙ ap (λ (t : Trees). t 0) trees ∙ applied.rows ∙ ap (λ all. put_all (db 0) all) news in
     let fresh : is_taken (db 0) n ≡ false = apart (is_taken (db 0) n) (subst (λ all. are_fresh (db 0) all ≡ true) news applied.fresh) in
-    let all = more_rows n (db 0) (map entry_row entries) fresh has.rows in
-    record {
-      schema = ap (λ (d : Database). d.schema) now;
-      rows = subst₂ (λ xs ys. IsPermutation (map logged_columns xs) ys) (sym table) (sym (map-append entry_row entries (entry ∷ []))) all;
-      committed = rw has.autocommit at w.shown.committed_is;
-      autocommit = w.shown.mode ∙ has.autocommit;
-    }
+    let all = more_rows n (db 0) (map entry_row entries) fresh has.rows in (
+      ap (λ (d : Database). d.schema) now,
+      subst₂ (λ xs ys. IsPermutation (map logged_columns xs) ys) (sym table) (sym (map-append entry_row entries (entry ∷ []))) all,
+    )
   where
     apart : (b : Bool) → (not b && true) ≡ true → b ≡ false
     apart true is = absurd cc
     apart false is = refl
+
+abbrev inserted_by : (old new : State) (entry : LogEntryValue) (count : ℕ) (entries : List LogEntryValue) → HasEntries old entries → Executes insert_statement (entry_row entry) old new (Ok count)
+    → Writes old new None (Insert 0 (Values terms 5)) (statement_of insert_statement (understood log_schema insert_statement)) (entry_row entry) count
+inserted_by old new entry count entries has h = runs_as insert_statement (entry_row entry) old new log_schema has.schema (Insert 0 (Values terms 5)) insert_is insert_plain count h
+
+-- an insertion adds the row of its entry
+inserted : (old new : State) (entry : LogEntryValue) (count : ℕ) (entries : List LogEntryValue) → HasEntries old entries → Executes insert_statement (entry_row entry) old new (Ok count)
+    → HasEntries new (entries ++ entry ∷ [])
+inserted old new entry count entries has h =
+    let w = inserted_by old new entry count entries has h in
+    let rows = made old entry w.tally new.now entries has w.changed in
+    record {
+      schema = rows.0;
+      rows = rows.1;
+      committed = rw has.autocommit at w.shown.committed_is;
+      autocommit = w.shown.mode ∙ has.autocommit;
+    }
+
+-- the connection stays open, and the last commit has the row
+pub inserts_durably : (old new : State) (entry : LogEntryValue) (count : ℕ) (entries : List LogEntryValue) → HasEntries old entries → Executes insert_statement (entry_row entry) old new (Ok count)
+    → IsTrue new.is_open × HasEntries new (entries ++ entry ∷ []) × HasLog new.committed.trees (entries ++ entry ∷ [])
+inserts_durably old new entry count entries has h =
+    let w = inserted_by old new entry count entries has h in
+    let after = inserted old new entry count entries has h in
+    (w.shown.is_open, after, logged new (entries ++ entry ∷ []) after w.sound)
+
+-- an insertion commits one more entry, whether it succeeds or not
+pub committed_by : (s : State) (entry : LogEntryValue) (entries : List LogEntryValue) (db : Trees) → HasEntries s entries → CommitsBy insert_statement (entry_row entry) s db
+    → HasLog db (entries ++ entry ∷ [])
+unfolding CommitsBy
+committed_by s entry entries db has h =
+    let sql = insert_statement in
+    let params = entry_row entry in
+    let known = sym h.1.is ∙ ap (λ x. understood x sql) has.schema in
+    let bare = subst IsPlain (sym known) insert_plain in
+    let may = subst₂ (λ k t. MayCommit s None k t params db) (ap command_of known ∙ insert_is) (ap (statement_of sql) known) (rw (bare.0, bare.1, append-nil params) at h.2) in
+    elim may [
+      | inl ends ↦ elim ends.0 [
+        | inl commit ↦ absurd (let e = commit in cc)
+        | inr release ↦ absurd (let e = release.2 in cc)
+      ]
+      | inr write ↦
+          let rows = made s entry write.1 write.2 entries has write.3 in
+          record {
+            sound = subst (λ (d : Trees). IsSound log_schema d) (sym write.5) (subst (λ k. IsSound k write.2.trees) rows.0 write.4);
+            rows = subst (λ (d : Trees). IsPermutation (map logged_columns (d 0)) (map entry_row (entries ++ entry ∷ []))) (sym write.5) rows.1;
+          }
+    ]
 
 pub inserts : (old new : State) (entry : LogEntryValue) (count : ℕ) (entries : List LogEntryValue) → (IsTrue old.is_open → HasEntries old entries)
     → Executes insert_statement (entry_row entry) old new (Ok count) → IsTrue new.is_open → HasEntries new (entries ++ entry ∷ [])
@@ -212,7 +268,7 @@ inserts old new entry count entries has h live = inserted old new entry count en
 
 -- ---- statements that leave the rows
 
-unchanged : (old new : State) (entries : List LogEntryValue) → HasEntries old entries → IsUnchanged old new → HasEntries new entries
+pub unchanged : (old new : State) (entries : List LogEntryValue) → HasEntries old entries → IsUnchanged old new → HasEntries new entries
 unchanged old new entries has same = record {
   schema = ap (λ (d : Database). d.schema) same.0.now_is ∙ has.schema;
   rows = subst (λ (d : Database). IsPermutation (map logged_columns (d.trees 0)) (map entry_row entries)) (sym same.0.now_is) has.rows;
@@ -251,7 +307,30 @@ keeps sql params old new e entries has h live = elim (failed sql params old new 
   | inr back ↦ rolled_back old new entries (has (back.was_open live)) back live
 ]
 
+pub keeps_not_run : (sql : List ℕ) (params : Row) (old new : State) (e : Error) (entries : List LogEntryValue) → (IsTrue old.is_open → HasEntries old entries) → IsNotRun old new sql params e
+    → IsTrue new.is_open → HasEntries new entries
+unfolding IsNotRun
+keeps_not_run sql params old new e entries has (inl not_run) live = unchanged old new entries (has not_run.1.0.was_open) not_run.1
+keeps_not_run sql params old new e entries has (inr fails) live = rolled_back old new entries (has (fails.3.was_open live)) fails.3 live
+
 -- ---- the table is created
+
+-- the creation of the table makes it without rows
+created_made : (old : State) (tally : Tally) (after : Database) → old.now.schema ≡ no_schema → Does old.step_limit (mode_of old) [] old.now create_statement None CreateTable (Ok (tally, after))
+    → (after.schema ≡ log_schema) × (after.trees 0 ≡ [])
+created_made old tally after has does =
+    let all = went does in
+    let first = went all.1 in
+    let made = first.1 in
+    let both : Ok made.table ≡ Ok log_table = sym made.defined ∙ create_is.2 in
+    let same : made.table ≡ log_table = cc in
+    let schema : first.0.schema ≡ log_schema = made.is ∙ ap (λ s. created s made.table) has ∙ ap (created no_schema) same in
+    let plain : lacks_sequence first.0.schema ≡ false = ap lacks_sequence schema in
+    let now : after ≡ first.0 = ap (λ (p : Tally × Database). p.1) (same_value all.2) ∙ same_value (rw plain at first.2) in
+    (ap (λ (d : Database). d.schema) now ∙ schema, ap (λ (d : Database). d.trees 0) now ∙ subst (λ s. first.0.trees (next_tree s) ≡ []) has made.empty)
+
+no_rows_yet : (rows : List Row) (entries : List LogEntryValue) → rows ≡ [] → entries ≡ [] → IsPermutation (map logged_columns rows) (map entry_row entries)
+no_rows_yet rows entries none empty = subst₂ (λ (xs : List Row) (ys : List LogEntryValue). IsPermutation (map logged_columns xs) (map entry_row ys)) (sym none) (sym empty) (IsPermutation-refl [])
 
 created_table : (old new : State) (count : ℕ) (entries : List LogEntryValue) → IsNewOrHas old entries → Executes create_statement [] old new (Ok count) → HasEntries new entries
 created_table old new count entries (inl has) h =
@@ -259,21 +338,59 @@ created_table old new count entries (inl has) h =
 created_table old new count entries (inr none) h =
     let has = none.0.0 in
     let w = subst (λ t. Writes old new None CreateTable t [] count) create_is.1 (runs_as create_statement [] old new no_schema has CreateTable create_is.0 create_plain count h) in
-    let all = went w.changed in
-    let first = went all.1 in
-    let made = first.1 in
-    let both : Ok made.table ≡ Ok log_table = sym made.defined ∙ create_is.2 in
-    let same : made.table ≡ log_table = cc in
-    let schema : first.0.schema ≡ log_schema = made.is ∙ ap (λ s. created s made.table) has ∙ ap (created no_schema) same in
-    let plain : lacks_sequence first.0.schema ≡ false = ap lacks_sequence schema in
-    let now : new.now ≡ first.0 = ap (λ (p : Tally × Database). p.1) (same_value all.2) ∙ same_value (rw plain at first.2) in
-    let rows : new.now.trees 0 ≡ [] = ap (λ (d : Database). d.trees 0) now ∙ subst (λ s. first.0.trees (next_tree s) ≡ []) has made.empty in
+    let made = created_made old w.tally new.now has w.changed in
     record {
-      schema = ap (λ (d : Database). d.schema) now ∙ schema;
-      rows = subst₂ (λ (xs : List Row) (ys : List LogEntryValue). IsPermutation (map logged_columns xs) (map entry_row ys)) (sym rows) (sym none.1) (IsPermutation-refl []);
+      schema = made.0;
+      rows = no_rows_yet (new.now.trees 0) entries made.1 none.1;
       committed = rw none.0.1 at w.shown.committed_is;
       autocommit = w.shown.mode ∙ none.0.1;
     }
+
+-- the creation of the table commits no entry, whether it succeeds or not
+pub created_by : (s : State) (entries : List LogEntryValue) (db : Trees) → IsNewOrHas s entries → CommitsBy create_statement [] s db → HasLog db entries
+unfolding CommitsBy
+created_by s entries db (inl has) h =
+    let known = sym h.1.is ∙ ap (λ x. understood x create_statement) has.schema in
+    let bare = subst IsPlain (sym known) again_plain in
+    let may = subst₂ (λ k t. MayCommit s None k t [] db) (ap command_of known ∙ again_is) (ap (statement_of create_statement) known) (rw (bare.0, bare.1, append-nil []) at h.2) in
+    absurd (elim may [
+      | inl ends ↦ elim ends.0 [
+        | inl commit ↦ let e = commit in cc
+        | inr release ↦ let e = release.2 in cc
+      ]
+      | inr write ↦ let e = write.3 in cc
+    ])
+created_by s entries db (inr none) h =
+    let known = sym h.1.is ∙ ap (λ x. understood x create_statement) none.0.0 in
+    let bare = subst IsPlain (sym known) create_plain in
+    let may = subst₂ (λ k t. MayCommit s None k t [] db) (ap command_of known ∙ create_is.0) (ap (statement_of create_statement) known ∙ create_is.1) (rw (bare.0, bare.1, append-nil []) at h.2) in
+    elim may [
+      | inl ends ↦ absurd (elim ends.0 [
+        | inl commit ↦ let e = commit in cc
+        | inr release ↦ let e = release.2 in cc
+      ])
+      | inr write ↦
+          let made = created_made s write.1 write.2 none.0.0 write.3 in
+          record {
+            sound = subst (λ (d : Trees). IsSound log_schema d) (sym write.5) (subst (λ k. IsSound k write.2.trees) made.0 write.4);
+            rows = no_rows_yet (db 0) entries (ap (λ (d : Trees). d 0) write.5 ∙ made.1) none.1;
+          }
+    ]
+
+-- the connection stays open, and the last commit has the table
+pub creates_durably : (old new : State) (count : ℕ) (entries : List LogEntryValue) → IsNewOrHas old entries → IsDatabase old.now → Executes create_statement [] old new (Ok count)
+    → IsTrue new.is_open × HasLog new.committed.trees entries
+creates_durably old new count entries (inl has) live h =
+    let same = (runs_as create_statement [] old new log_schema has.schema Nothing again_is again_plain count h).0 in
+    (same.0.is_open, logged new entries (unchanged old new entries has same) (subst (λ (d : Database). IsDatabase d) (sym same.0.now_is) live))
+creates_durably old new count entries (inr none) live h =
+    let w = subst (λ t. Writes old new None CreateTable t [] count) create_is.1 (runs_as create_statement [] old new no_schema none.0.0 CreateTable create_is.0 create_plain count h) in
+    (w.shown.is_open, logged new entries (created_table old new count entries (inr none) h) w.sound)
+
+-- a connection that shows the same is on a new database, or has the same entries
+pub unchanged_new : (old new : State) (entries : List LogEntryValue) → IsNewOrHas old entries → IsUnchanged old new → IsNewOrHas new entries
+unchanged_new old new entries (inl has) same = inl (unchanged old new entries has same)
+unchanged_new old new entries (inr none) same = inr ((ap (λ (d : Database). d.schema) same.0.now_is ∙ none.0.0, same.0.mode ∙ none.0.1), none.1)
 
 pub creates : (old new : State) (count : ℕ) (entries : List LogEntryValue) → (IsTrue old.is_open → IsNewOrHas old entries) → Executes create_statement [] old new (Ok count) → IsTrue new.is_open
     → HasEntries new entries
@@ -347,6 +464,10 @@ same_entries (e ∷ entries) = λ i. entry_is (entry_row e) e (refl, refl, refl)
 
 pub keeps_reading : (old new : State) (rows : List Row) (entries : List LogEntryValue) → HasEntries old entries → Shown select_statement [] old new rows → HasEntries new entries
 keeps_reading old new rows entries has h = unchanged old new entries has (shown_unchanged select_statement [] old new log_schema has.schema select_plain rows h)
+
+-- reading commits nothing
+pub reading_commits_nothing : (s : State) (entries : List LogEntryValue) (db : Trees) → HasEntries s entries → ¬ CommitsShowing select_statement [] s db
+reading_commits_nothing s entries db has = never_commits select_statement [] s db (subst (λ k. IsPlain (understood k select_statement)) (sym has.schema) select_plain)
 
 -- the entries of the rows that are shown are those of the table
 pub shown_entries : (old new : State) (rows : List Row) (entries : List LogEntryValue) → HasEntries old entries → Shown select_statement [] old new rows → IsPermutation (map entry_in rows) entries

@@ -1,5 +1,5 @@
 -- The entries of a log in a database that is closed and opened again: its rows list one schema.
-use Rattle.std.proofs.Common.{◌≡◌, ◌∙◌, ℕ, ◌+◌, pos, List, [], ◌∷◌, Result, Ok, IsTrue, map, refl, sym, ap, ap₂, subst, subst₂, arith}
+use Rattle.std.proofs.Common.{◌≡◌, ◌∙◌, ◌++◌, inl, inr, ℕ, ◌+◌, pos, List, [], ◌∷◌, Result, Ok, IsTrue, map, refl, sym, ap, ap₂, subst, arith}
 use Rattle.std.specs.List.{AllZip}
 use Rattle.std.specs.List.Sorted.{IsPermutation}
 use Rattle.sqlite_catalog.specs.Listing.{IsSound, IsTableRow, IsIndexRow, IsViewRow, DefinesTable}
@@ -11,6 +11,9 @@ use Rattle.sqlite.specs.Compile.{table_defined_by}
 use Rattle.sqlite.specs.Tree.{Trees}
 use Rattle.sqlite.specs.State.{State, IsLive, Opens}
 use Rattle.jj_mirror.specs.Entries.{LogEntryValue}
+use Rattle.jj_sqlite.specs.Crashes.{HasLog, HasLogAfterCrash}
+use Rattle.jj_sqlite.specs.Inserts.{HasEntriesAfterCrash}
+use Rattle.jj_sqlite.proofs.LogTable.{logged}
 use Rattle.jj_sqlite.specs.Tables.{HasEntries, entry_row, log_schema, logged_columns}
 
 texts_equal : (x y : List ℕ) → Text x ≡ Text y → x ≡ y
@@ -56,16 +59,24 @@ schema_is_one schema db a b =
     let views : schema.views ≡ [] = none_again IsViewRow IsViewRow _ schema.views a.lists.listed.views b.lists.listed.views in
     λ i. record { tables = tables i; indexes = indexes i; views = views i }
 
--- a connection that was just opened on the trees that another one committed has its entries
-pub entries_again : (old new : State) (entries : List LogEntryValue) → IsLive old → IsTrue old.is_open → HasEntries old entries
-    → Opens new → IsLive new → new.committed.trees ≡ old.committed.trees → HasEntries new entries
-entries_again old new entries live is_open has opens live_again same =
-    let trees : old.now.trees ≡ new.committed.trees = ap (λ d. d.trees) (sym has.committed) ∙ sym same in
-    let sound : IsSound log_schema new.committed.trees = subst₂ (λ s d. IsSound s d) has.schema trees (live is_open).0 in
-    let schema : new.committed.schema ≡ log_schema = schema_is_one new.committed.schema new.committed.trees sound (live_again opens.is_open).1 in
+-- a connection that was just opened on the trees of a log has its entries
+pub found_again : (new : State) (entries : List LogEntryValue) (db : Trees) → HasLog db entries → Opens new → IsLive new → new.committed.trees ≡ db → HasEntries new entries
+found_again new entries db has opens live same =
+    let sound : IsSound log_schema new.committed.trees = subst (λ (d : Trees). IsSound log_schema d) (sym same) has.sound in
+    let schema : new.committed.schema ≡ log_schema = schema_is_one new.committed.schema new.committed.trees sound (live opens.is_open).1 in
     record {
       schema = ap (λ d. d.schema) opens.clean ∙ schema;
-      rows = subst (λ (d : Trees). IsPermutation (map logged_columns (d 0)) (map entry_row entries)) (trees ∙ ap (λ d. d.trees) (sym opens.clean)) has.rows;
+      rows = subst (λ (d : Trees). IsPermutation (map logged_columns (d 0)) (map entry_row entries)) (sym same ∙ ap (λ d. d.trees) (sym opens.clean)) has.rows;
       committed = sym opens.clean;
       autocommit = opens.autocommit;
     }
+
+-- a connection that was just opened on the trees that another one committed has its entries
+pub entries_again : (old new : State) (entries : List LogEntryValue) → IsLive old → IsTrue old.is_open → HasEntries old entries
+    → Opens new → IsLive new → new.committed.trees ≡ old.committed.trees → HasEntries new entries
+entries_again old new entries live is_open has opens live_again same = found_again new entries old.committed.trees (logged old entries has (live is_open).0) opens live_again same
+
+-- a connection that was opened on what a crash left has all entries
+pub found_after_crash : (new : State) (entries : List LogEntryValue) → HasLogAfterCrash new.committed.trees entries → Opens new → IsLive new → HasEntriesAfterCrash new entries
+found_after_crash new entries (inl has) opens live = inl (found_again new entries new.committed.trees has opens live refl)
+found_after_crash new entries (inr more) opens live = inr (more.0, found_again new (entries ++ more.0 ∷ []) new.committed.trees more.1 opens live refl)

@@ -22,7 +22,7 @@ use Rattle.jj_sqlite.specs.Tables.{HasEntries, select_statement}
 use Rattle.jj_sqlite.specs.WrongObjects.{HasWrongObject}
 use Rattle.jj_sqlite.specs.declared.error.OpenError.{OpenError}
 use Rattle.jj_sqlite.specs.declared.error.OpenError.TheVariants.{Memory, Sqlite, WrongObject, UnknownKind, Malformed, Backend}
-use Rattle.jj_sqlite.proofs.LogTable.{creates, entry_in, entry_is, reads, shown_entries, shown_open}
+use Rattle.jj_sqlite.proofs.LogTable.{creates, unchanged_new, entry_in, entry_is, reads, shown_entries, shown_open}
 
 at_index : {A B : Type 0} (f : A → B) (xs : List A) (i : ℕ) (x : A) → slice_get xs i ≡ Some x → Contains (map f xs) (f x)
 at_index f [] zero x e = absurd cc
@@ -68,7 +68,8 @@ pub wrong_object : {S : Type 0} (g : Ghosts S) (old new : Held S) (entries : Lis
 wrong_object g old new entries e clean had fails = elim fails [
   | inl create ↦ subst (HasWrongObject entries) (sym create.1) (of_sqlite entries create.0)
   | inr rest ↦
-      let has : IsTrue (state g rest.0).is_open → HasEntries (state g rest.0) entries = creates (state g old) (state g rest.0) rest.1.0 entries (had clean) rest.1.1 in
+      let ran = rest.1.1 in
+      let has : IsTrue (state g rest.0).is_open → HasEntries (state g rest.0) entries = creates (state g ran.0) (state g rest.0) rest.1.0 entries (λ _. unchanged_new (state g old) (state g ran.0) entries (had clean ran.1.0.was_open) ran.1) ran.2 in
       elim rest.2 [
         | inl read ↦ elim read [
           | inl query ↦ subst (HasWrongObject entries) (sym query.1) (of_sqlite entries query.0)

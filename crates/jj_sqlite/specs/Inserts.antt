@@ -1,17 +1,23 @@
 -- The entries of a log as the rows of its table, and the errors of an insertion.
--- Cited by contracts of public items: ContainsEntries, FailsToInsert, MayFailToInsert,
--- WasNewOrContains.
-use Rattle.std.specs.Prelude.{◌≡◌, ◌⊎◌, List, Err, IsTrue}
+-- Cited by contracts of public items: ContainsEntries, FailsToInsert,
+-- HasEntriesAfterCrash, MayFailToInsert, StoresEntries, WasNewOrContains.
+use Rattle.std.specs.Prelude.{◌≡◌, ◌⊎◌, ◌++◌, ◌∷◌, [], List, Err, IsTrue}
 use Rattle.sqlite.specs.declared.error.Error.{Error}
 use Rattle.sqlite.specs.Store.{Ghosts}
-use Rattle.sqlite.specs.State.{HasCleanDisk, Executes}
+use Rattle.sqlite.specs.State.{State, HasCleanDisk}
 use Rattle.sqlite.specs.Held.{Held, state}
 use Rattle.jj_files.specs.declared.file_util.errors.SourceKind.TheVariants.{Io}
 use Rattle.jj_backend.specs.Errors.{IsOtherOf}
 use Rattle.jj_backend.specs.declared.backend.errors.BackendError.{BackendError}
 use Rattle.jj_backend.specs.declared.backend.errors.BackendError.TheVariants.{Memory}
 use Rattle.jj_mirror.specs.Entries.{LogEntryValue}
+use Rattle.jj_sqlite.specs.Crashes.{LeavesEntries, RunsAsIs}
 use Rattle.jj_sqlite.specs.Tables.{HasEntries, IsNewOrHas, insert_statement, entry_row}
+
+-- the table has the rows of these entries, or of these and one more, whose write failed
+abbrev pub HasEntriesAfterCrash : State → List LogEntryValue → Type 0
+HasEntriesAfterCrash s entries = HasEntries s entries
+    ⊎ ((entry : LogEntryValue) × HasEntries s (entries ++ entry ∷ []))
 
 module _ {S : Type 0} (g : Ghosts S) where
   -- While the connection is open and the disk has returned what was written to it, the table has
@@ -19,6 +25,11 @@ module _ {S : Type 0} (g : Ghosts S) where
   abbrev pub ContainsEntries : Held S → List LogEntryValue → Type 0
   ContainsEntries conn entries = HasCleanDisk (state g conn) → IsTrue (state g conn).is_open
       → HasEntries (state g conn) entries
+
+  -- The table has exactly the rows of these entries, and a crash at this moment leaves all of them.
+  pub record StoresEntries (conn : Held S) (entries : List LogEntryValue) : Type 0 where
+    pub now : ContainsEntries conn entries
+    pub crash : LeavesEntries g conn entries
 
   -- before the table is created: the table has exactly the rows of these entries, or the database
   -- has nothing and there are no entries
@@ -29,7 +40,7 @@ module _ {S : Type 0} (g : Ghosts S) where
   -- the statement for the entry failed with e
   abbrev pub FailsToInsert : LogEntryValue → Held S → Held S → Error → Type 0
   FailsToInsert entry old new e = HasCleanDisk (state g new)
-      → Executes insert_statement (entry_row entry) (state g old) (state g new) (Err e)
+      → RunsAsIs g insert_statement (entry_row entry) old new (Err e)
 
   -- the errors of appending an entry: out of memory, or Other of kind Io if the statement fails
   abbrev pub MayFailToInsert : Held S → LogEntryValue → BackendError → Type 0

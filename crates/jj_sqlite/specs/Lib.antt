@@ -1,4 +1,5 @@
 pub mod Tables
+pub mod Crashes
 pub mod Inserts
 pub mod Rows
 pub mod Opening

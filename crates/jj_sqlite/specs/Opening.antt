@@ -8,13 +8,14 @@ use Rattle.sqlite.specs.declared.error.Error.TheVariants.{SqliteFailure}
 use Rattle.sqlite.specs.declared.error.ErrorCode.TheVariants.{OutOfMemory}
 use Rattle.sqlite.specs.Order.{Row}
 use Rattle.sqlite.specs.Store.{Ghosts}
-use Rattle.sqlite.specs.State.{Executes, FailsToQuery, Shown}
+use Rattle.sqlite.specs.State.{FailsToQuery, Shown}
 use Rattle.sqlite.specs.Held.{Held, state}
 use Rattle.jj_trees.specs.MemoryObjects.{MemoryBackendValue}
 use Rattle.jj_mirror.specs.Entries.{LogEntryValue}
 use Rattle.jj_replay.specs.Replays.{IsReplay, IsReplayError}
 use Rattle.jj_replay.specs.declared.error.ReplayError.{ReplayError}
 use Rattle.jj_replay.specs.declared.error.ReplayError.TheVariants as replay
+use Rattle.jj_sqlite.specs.Crashes.{RunsAsIs}
 use Rattle.jj_sqlite.specs.Tables.{create_statement, select_statement}
 use Rattle.jj_sqlite.specs.Rows.{IsGoodRow, IsReadError}
 use Rattle.jj_sqlite.specs.declared.error.OpenError.{OpenError}
@@ -35,12 +36,12 @@ open_error (replay.Backend error) = Backend error
 module _ {S : Type 0} (g : Ghosts S) (old new : Held S) where
   -- the statement that creates the table, unless there is one, was executed
   abbrev pub IsCreated : Type 0
-  IsCreated = (count : ℕ) × Executes create_statement [] (state g old) (state g new) (Ok count)
+  IsCreated = (count : ℕ) × RunsAsIs g create_statement [] old new (Ok count)
 
   -- the statement that creates the table failed
   abbrev pub FailsToCreate : OpenError → Type 0
   FailsToCreate e = (cause : Error) × (e ≡ sqlite_error cause)
-      × Executes create_statement [] (state g old) (state g new) (Err cause)
+      × RunsAsIs g create_statement [] old new (Err cause)
 
   -- the rows of the table cannot be read, or e is the error of the first row that has one
   abbrev pub FailsToRead : OpenError → Type 0

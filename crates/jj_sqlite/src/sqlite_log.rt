@@ -1,16 +1,19 @@
 //! A log of written objects in a table of an SQLite database.
-ghost use Rattle.std.specs.Prelude.{◌≡◌, ◌⊎◌, [], List, IfOk, IfErr, OnOk, OnErr};
+ghost use Rattle.std.specs.Prelude.{◌≡◌, ◌⊎◌, ◌++◌, ◌∷◌, [], List, IfOk, IfErr, OnOk, OnErr};
 ghost use Rattle.std.specs.List.{AllZip};
 ghost use Rattle.std.specs.List.Sorted.{IsPermutation};
 ghost use Rattle.sqlite.specs.Held.{state};
 ghost use Rattle.sqlite.specs.Order.{Row};
-ghost use Rattle.sqlite.specs.State.{HasCleanDisk, Executes, FailsToQuery, Shown};
+ghost use Rattle.sqlite.specs.State.{HasCleanDisk, FailsToQuery, Shown, CommitsShowing, Survives};
+ghost use Rattle.sqlite.specs.Values.{bound};
 ghost use Rattle.jj_backend.specs.Errors.{IsOtherOf};
 ghost use Rattle.jj_mirror.specs.Entries.{LogEntryValue};
 ghost use Rattle.jj_mirror.specs.Logs.{Appends, Keeps};
 ghost use Rattle.jj_sqlite.specs.Tables.{create_statement, insert_statement, select_statement};
 ghost use Rattle.jj_sqlite.specs.Tables.{entry_row};
-ghost use Rattle.jj_sqlite.specs.Inserts.{ContainsEntries, FailsToInsert, MayFailToInsert, WasNewOrContains};
+ghost use Rattle.jj_sqlite.specs.Crashes.{CommitsAsIs, HasLog, RunsAsIs};
+ghost use Rattle.jj_sqlite.specs.Inserts.{ContainsEntries, FailsToInsert, MayFailToInsert};
+ghost use Rattle.jj_sqlite.specs.Inserts.{StoresEntries, WasNewOrContains};
 ghost use Rattle.jj_sqlite.specs.Rows.{IsEntryRow, IsGoodRow, IsRowError, IsReadError};
 ghost use Rattle.jj_sqlite.specs.Opening.{IsCreated, FailsToCreate, FailsToRead};
 
@@ -18,6 +21,7 @@ use crate::error::OpenError;
 use jj_backend::backend::{BackendError, BackendResult};
 use jj_files::file_util::{SourceError, SourceKind};
 use jj_mirror::object_log::{LogEntry, ObjectKind, ObjectLog};
+use sqlite::types::ValueRef;
 use sqlite::{Alter, Connection, Error, ErrorCode, Row, params};
 use std::alloc::Global;
 
@@ -39,14 +43,20 @@ impl<S: Alter> SqliteLog<S> {
         ensures ok { IfOk result (λ log. HasCleanDisk (state S.Store log.conn)
             → IsCreated S.Store conn log.conn) }
         ensures entries { IfOk result (λ log. (entries : List LogEntryValue)
-            → WasNewOrContains S.Store conn entries → ContainsEntries S.Store log.conn entries) }
+            → WasNewOrContains S.Store conn entries → StoresEntries S.Store log.conn entries) }
         // If the disk has returned only what was written to it up to the end of the call, it had at
         // the start.
         ensures clean { IfOk result (λ log. HasCleanDisk (state S.Store log.conn)
             → HasCleanDisk (state S.Store conn)) }
+        // A crash leaves a database that it could leave before the call, or the log with the
+        // entries that it had.
+        ensures crash { IfErr result (λ e. Survives (state S.Store conn) (state S.Store e.1) (λ db.
+            (entries : List LogEntryValue) → HasCleanDisk (state S.Store conn)
+            → WasNewOrContains S.Store conn entries → HasLog db entries)) }
         ensures error { IfErr result (λ e. HasCleanDisk (state S.Store e.1)
             → FailsToCreate S.Store conn e.1 e.0) }
     {
+        let _schema = conn.schema();
         match create_table(&mut conn) {
             Ok(_) => Ok(SqliteLog { conn }),
             Err(cause) => Err((OpenError::from(cause), conn)),
@@ -64,7 +74,7 @@ impl<S: Alter> SqliteLog<S> {
         ensures entries { HasCleanDisk (state S.Store self.new.conn) → IfOk result (λ read.
             (entries : List LogEntryValue) → ContainsEntries S.Store self.old.conn entries
             → IsPermutation read.items entries) }
-        ensures kept { OnOk result (Keeps (ContainsEntries S.Store) self.old.conn self.new.conn) }
+        ensures kept { OnOk result (Keeps (StoresEntries S.Store) self.old.conn self.new.conn) }
         ensures clean { HasCleanDisk (state S.Store self.new.conn)
             → HasCleanDisk (state S.Store self.old.conn) }
         ensures error { HasCleanDisk (state S.Store self.new.conn)
@@ -83,12 +93,29 @@ impl<S: Alter> SqliteLog<S> {
     }
 }
 
+// Runs a statement. A connection that is shut fails to prepare it, so it commits nothing.
+fn run<S: Alter>(
+    conn: &mut Connection<S>,
+    sql: &str,
+    params: &[ValueRef<'_>],
+) -> Result<usize, Error>
+    ensures runs { HasCleanDisk (state S.Store conn.new)
+        → RunsAsIs S.Store sql.now (bound params.now) conn.old conn.new result }
+    ensures survives { Survives (state S.Store conn.old) (state S.Store conn.new)
+        (CommitsAsIs S.Store sql.now (bound params.now) conn.old) }
+{
+    let statement = conn.prepare(sql)?;
+    statement.execute(conn, params)
+}
+
 fn create_table<S: Alter>(conn: &mut Connection<S>) -> Result<usize, Error>
     ensures runs { HasCleanDisk (state S.Store conn.new)
-        → Executes create_statement [] (state S.Store conn.old) (state S.Store conn.new) result }
-    ensures clean { HasCleanDisk (state S.Store conn.new) → HasCleanDisk (state S.Store conn.old) }
+        → RunsAsIs S.Store create_statement [] conn.old conn.new result }
+    ensures survives { Survives (state S.Store conn.old) (state S.Store conn.new)
+        (CommitsAsIs S.Store create_statement [] conn.old) }
 {
-    conn.execute(
+    run(
+        conn,
         "CREATE TABLE IF NOT EXISTS object_log (seq INTEGER PRIMARY KEY, kind TEXT NOT NULL, \
         id BLOB NOT NULL, bytes BLOB NOT NULL) STRICT",
         &[],
@@ -98,7 +125,8 @@ fn create_table<S: Alter>(conn: &mut Connection<S>) -> Result<usize, Error>
 fn select_rows<S: Alter>(conn: &mut Connection<S>) -> Result<Vec<Row>, Error>
     ensures rows { HasCleanDisk (state S.Store conn.new) → IfOk result (λ rows.
         Shown select_statement [] (state S.Store conn.old) (state S.Store conn.new) rows.items) }
-    ensures clean { HasCleanDisk (state S.Store conn.new) → HasCleanDisk (state S.Store conn.old) }
+    ensures survives { Survives (state S.Store conn.old) (state S.Store conn.new)
+        (CommitsShowing select_statement [] (state S.Store conn.old)) }
     ensures error { HasCleanDisk (state S.Store conn.new) → IfErr result
         (FailsToQuery select_statement [] (state S.Store conn.old) (state S.Store conn.new)) }
 {
@@ -154,12 +182,15 @@ fn insert_entry<S: Alter>(
     id: &[u8],
     bytes: &[u8],
 ) -> Result<usize, Error>
-    ensures runs { HasCleanDisk (state S.Store conn.new) → Executes insert_statement
+    ensures runs { HasCleanDisk (state S.Store conn.new) → RunsAsIs S.Store insert_statement
         (entry_row (record { kind = kind; id = id.now; bytes = bytes.now }))
-        (state S.Store conn.old) (state S.Store conn.new) result }
-    ensures clean { HasCleanDisk (state S.Store conn.new) → HasCleanDisk (state S.Store conn.old) }
+        conn.old conn.new result }
+    ensures survives { Survives (state S.Store conn.old) (state S.Store conn.new)
+        (CommitsAsIs S.Store insert_statement
+        (entry_row (record { kind = kind; id = id.now; bytes = bytes.now })) conn.old) }
 {
-    conn.execute(
+    run(
+        conn,
         "INSERT INTO object_log (kind, id, bytes) VALUES (?1, ?2, ?3)",
         params![kind.name(), id, bytes],
     )
@@ -181,7 +212,7 @@ fn convert_error(alloc: Global, error: Error) -> BackendError
 }
 
 impl<S: Alter> ObjectLog for SqliteLog<S> {
-    ghost contains = { λ log. ContainsEntries S.Store log.conn };
+    ghost contains = { λ log. StoresEntries S.Store log.conn };
 
     ghost may_fail = { λ log. MayFailToInsert S.Store log.conn };
 
@@ -192,10 +223,18 @@ impl<S: Alter> ObjectLog for SqliteLog<S> {
         id: &[u8],
         bytes: &[u8],
     ) -> BackendResult<()>
-        ensures ok { OnOk result (Appends (ContainsEntries S.Store) self.old.conn self.new.conn
+        // After a crash at any moment the log has all entries of the calls that succeeded, and at
+        // most that of the one that failed.
+        ensures ok { OnOk result (Appends (StoresEntries S.Store) self.old.conn self.new.conn
             (record { kind = kind; id = id.now; bytes = bytes.now })) }
         ensures unchanged { OnErr result
-            (Keeps (ContainsEntries S.Store) self.old.conn self.new.conn) }
+            (Keeps (StoresEntries S.Store) self.old.conn self.new.conn) }
+        // A crash leaves a database that it could leave before the call, or the log with this
+        // entry.
+        ensures crash { Survives (state S.Store self.old.conn) (state S.Store self.new.conn) (λ db.
+            (entries : List LogEntryValue) → HasCleanDisk (state S.Store self.old.conn)
+            → ContainsEntries S.Store self.old.conn entries → HasLog db
+            (entries ++ record { kind = kind; id = id.now; bytes = bytes.now } ∷ [])) }
         ensures error { IfErr result (MayFailToInsert S.Store self.old.conn
             (record { kind = kind; id = id.now; bytes = bytes.now })) }
         ensures cause { IfErr result (λ e. (e ≡ BackendError.Memory) ⊎ ((cause : Error)

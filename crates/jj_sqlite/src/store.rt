@@ -5,7 +5,7 @@ ghost use Rattle.sqlite.specs.State.{HasCleanDisk};
 ghost use Rattle.jj_mirror.specs.Entries.{LogEntryValue};
 ghost use Rattle.jj_mirror.specs.Logs.{Keeps};
 ghost use Rattle.jj_replay.specs.Replays.{IsReplay};
-ghost use Rattle.jj_sqlite.specs.Inserts.{ContainsEntries, WasNewOrContains};
+ghost use Rattle.jj_sqlite.specs.Inserts.{ContainsEntries, StoresEntries, WasNewOrContains};
 ghost use Rattle.jj_sqlite.specs.Opening.{IsOpened, IsOpenError, IsReplayed};
 ghost use Rattle.jj_sqlite.specs.Opening.{FailsToRead, FailsToReplay};
 
@@ -24,7 +24,7 @@ fn replay_log<S: Alter>(alloc: Global, log: &mut SqliteLog<S>) -> Result<MemoryB
     ensures entries { HasCleanDisk (state S.Store log.new.conn) → IfOk result (λ backend.
         (entries : List LogEntryValue) → ContainsEntries S.Store log.old.conn entries
         → IsReplay entries backend) }
-    ensures kept { OnOk result (Keeps (ContainsEntries S.Store) log.old.conn log.new.conn) }
+    ensures kept { OnOk result (Keeps (StoresEntries S.Store) log.old.conn log.new.conn) }
     ensures clean { HasCleanDisk (state S.Store log.new.conn)
         → HasCleanDisk (state S.Store log.old.conn) }
     ensures error { HasCleanDisk (state S.Store log.new.conn) → IfErr result (λ e.
@@ -51,7 +51,7 @@ pub fn open_store<S: Alter>(
         → IsReplay entries store.backend) }
     ensures kept { IfOk result (λ store. (entries : List LogEntryValue)
         → WasNewOrContains S.Store conn entries
-        → ContainsEntries S.Store store.log.conn entries) }
+        → StoresEntries S.Store store.log.conn entries) }
     // If the disk has returned only what was written to it up to the end of the call, it had at
     // the start.
     ensures clean { IfOk result (λ store. HasCleanDisk (state S.Store store.log.conn)

@@ -10,7 +10,7 @@ returns-in-Ok-replay_log-clause-ok g c =
 
 pub returns-in-Ok-replay_log-clause-entries : goal.returns-in-Ok-replay_log-clause-entries
 returns-in-Ok-replay_log-clause-entries g c =
-    rw c.new.ensures (λ clean entries had. c.in-Ok-replay_log.ensures.entries clean entries (c.in-Ok.ensures.entries entries had))
+    rw c.new.ensures (λ clean entries had. c.in-Ok-replay_log.ensures.entries clean entries (c.in-Ok.ensures.entries entries had).now)
 
 pub returns-in-Ok-replay_log-clause-kept : goal.returns-in-Ok-replay_log-clause-kept
 returns-in-Ok-replay_log-clause-kept g c =
