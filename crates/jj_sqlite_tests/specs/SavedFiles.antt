@@ -1,16 +1,55 @@
 -- The entries of a log in the closed files of its database.
--- Cited by contracts of public items: FilesContain.
-use Rattle.std.specs.Prelude.{List}
+-- Cited by contracts of public items: CrashContains, CrashLeaves, FilesContain,
+-- HasReplayAfterCrash, ImageContains, MayContain, file_entry.
+use Rattle.std.specs.Prelude.{◌⊎◌, ◌++◌, ◌∷◌, [], ℕ, List}
+use Rattle.sqlite_wal.specs.Recovery.{Image}
+use Rattle.sqlite_wal.specs.Files.{outcomes}
+use Rattle.sqlite_wal.specs.Reads.{AreClean}
 use Rattle.sqlite_disk.specs.declared.Disk.{Ghosts}
 use Rattle.sqlite_disk.specs.declared.Files.{Files}
 use Rattle.sqlite_store.specs.declared.store.FileStore.{FileStore}
-use Rattle.sqlite.specs.Files.{file_state, over_files, Finds, IsOpened}
+use Rattle.sqlite_store.specs.FileStore as store
+use Rattle.sqlite.specs.Files.{file_state, over_files, Finds, HoldsDatabase, IsOpened}
 use Rattle.sqlite.specs.Held.{Held}
+use Rattle.sqlite.specs.Tree.{Trees}
 use Rattle.sqlite.specs.State.{HasCleanDisk}
-use Rattle.jj_mirror.specs.Entries.{LogEntryValue}
+use Rattle.jj_backend.specs.Objects.{file_object}
+use Rattle.jj_mirror.specs.Entries.{LogEntryValue, entry_of}
+use Rattle.jj_replay.specs.Replays.{IsReplay}
+use Rattle.jj_trees.specs.MemoryObjects.{MemoryBackendValue}
+use Rattle.jj_sqlite.specs.Crashes.{HasLog, HasLogAfterCrash}
 use Rattle.jj_sqlite.specs.Inserts.{ContainsEntries}
+
+-- the entry of a file
+abbrev pub file_entry : List ℕ → LogEntryValue
+file_entry contents = entry_of (file_object contents)
 
 -- each connection that is opened on the files has exactly the rows of these entries in its table
 abbrev pub FilesContain : {D : Type 0} (g : Ghosts D) → Files D → List LogEntryValue → Type 0
 FilesContain {D} g files entries = (conn : Held (FileStore D g)) → HasCleanDisk (file_state conn)
     → Finds files conn → IsOpened conn → ContainsEntries over_files conn entries
+
+-- this content of the files holds the database of a log with these entries
+abbrev pub ImageContains : Image → List LogEntryValue → Type 0
+ImageContains image entries = ∥ ((db : Trees) × HoldsDatabase image db × HasLog db entries) ∥₁
+
+-- so has each content of the closed files that a crash at this moment may leave
+abbrev pub CrashContains : {D : Type 0} (g : Ghosts D) → Files D → List LogEntryValue → Type 0
+CrashContains g files entries = AreClean g files.log files.db → (image : Image)
+    → outcomes g files.log files.db image → ImageContains image entries
+
+-- this content of the files holds the database of a log with these entries, and at most one more,
+-- whose write failed
+abbrev pub MayContain : Image → List LogEntryValue → Type 0
+MayContain image entries =
+    ∥ ((db : Trees) × HoldsDatabase image db × HasLogAfterCrash db entries) ∥₁
+
+-- so has each content that a crash at this moment may leave of the files of a store
+abbrev pub CrashLeaves : {D : Type 0} {g : Ghosts D} → FileStore D g → List LogEntryValue → Type 0
+CrashLeaves files entries = (image : Image) → (store.state files).may_leave image
+    → MayContain image entries
+
+-- the backend has the objects of these entries, or of these and one more, whose write failed
+abbrev pub HasReplayAfterCrash : List LogEntryValue → MemoryBackendValue → Type 0
+HasReplayAfterCrash entries backend = ∥ (IsReplay entries backend
+    ⊎ ((entry : LogEntryValue) × IsReplay (entries ++ entry ∷ []) backend)) ∥₁

@@ -9,10 +9,10 @@ ghost use Rattle.jj_backend.specs.Objects.{commit_object};
 ghost use Rattle.jj_backend.specs.Records.{CommitValue, commit_eq};
 ghost use Rattle.jj_mirror.specs.Entries.{LogEntryValue, entry_of};
 ghost use Rattle.jj_mirror.specs.Logs.{Appends};
-ghost use Rattle.jj_sqlite.specs.Inserts.{ContainsEntries, WasNewOrContains};
+ghost use Rattle.jj_sqlite.specs.Inserts.{ContainsEntries, StoresEntries, WasNewOrContains};
 ghost use Rattle.jj_sqlite.specs.Rows.{HasDigest};
 ghost use Rattle.jj_sqlite.specs.WrongObjects.{HasWrongObject};
-ghost use Rattle.jj_sqlite_tests.specs.SavedFiles.{FilesContain};
+ghost use Rattle.jj_sqlite_tests.specs.SavedFiles.{CrashContains, FilesContain};
 
 use jj_backend::backend::{Backend, BackendResult, Commit, CommitId, NoSigner};
 use jj_content::content_hash::blake2b_hash;
@@ -30,7 +30,7 @@ fn log_commit<S: Alter>(
     store: &mut Mirrored<MemoryBackend, SqliteLog<S>>,
     commit: Commit,
 ) -> BackendResult<()>
-    ensures { OnOk result (Appends (ContainsEntries S.Store) store.old.log.conn store.new.log.conn
+    ensures { OnOk result (Appends (StoresEntries S.Store) store.old.log.conn store.new.log.conn
         (entry_of (commit_object commit))) }
 {
     store.write_commit(alloc, commit, None::<&mut NoSigner>)?;
@@ -55,7 +55,7 @@ pub fn write_stored<S: Alter>(
     ensures id { IfOk result.0 (λ id. id ≡ blake2b (commit_content commit)) }
     ensures value { OnOk result.0 (IsCommit commit) }
     ensures logged { OnOk result.0 ((entries : List LogEntryValue)
-        → WasNewOrContains S.Store conn entries → ContainsEntries S.Store result.1
+        → WasNewOrContains S.Store conn entries → StoresEntries S.Store result.1
         (entries ++ entry_of (commit_object commit) ∷ [])) }
 {
     let Ok(id) = commit_id(alloc, &commit) else {
@@ -101,6 +101,8 @@ pub fn read_stored<S: Alter>(
 fn close_database<D: Disk + Drop>(conn: Connection<FileStore<D>>) -> Result<Files<D>, OpenError>
     ensures entries { IfOk result (λ files. (entries : List LogEntryValue)
         → ContainsEntries over_files conn entries → FilesContain D.Disk files entries) }
+    ensures crash { IfOk result (λ files. (entries : List LogEntryValue)
+        → ContainsEntries over_files conn entries → CrashContains D.Disk files entries) }
     ensures log { IfOk result (λ files. IsTrue (D.Disk.is_usable files.log)) }
     ensures db { IfOk result (λ files. IsTrue (D.Disk.is_usable files.db)) }
 {
@@ -115,7 +117,7 @@ fn close_database<D: Disk + Drop>(conn: Connection<FileStore<D>>) -> Result<File
 }
 
 /// Writes a commit to the files of a database and closes them: whoever opens the files finds its
-/// entry in the log. Returns the digest as an id, and the files.
+/// entry in the log, also after a crash. Returns the digest as an id, and the files.
 pub fn save_commit<D: Disk + Drop>(
     alloc: Global,
     conn: Connection<FileStore<D>>,
@@ -126,6 +128,9 @@ pub fn save_commit<D: Disk + Drop>(
     ensures logged { IfOk result (λ saved. (entries : List LogEntryValue)
         → WasNewOrContains over_files conn entries
         → FilesContain D.Disk saved.1 (entries ++ entry_of (commit_object commit) ∷ [])) }
+    ensures crash { IfOk result (λ saved. (entries : List LogEntryValue)
+        → WasNewOrContains over_files conn entries
+        → CrashContains D.Disk saved.1 (entries ++ entry_of (commit_object commit) ∷ [])) }
     ensures log { IfOk result (λ saved. IsTrue (D.Disk.is_usable saved.1.log)) }
     ensures db { IfOk result (λ saved. IsTrue (D.Disk.is_usable saved.1.db)) }
 {

@@ -3,9 +3,9 @@ use Rattle.jj_backend.specs.Objects.{commit_object}
 use Rattle.jj_backend.specs.Records.{CommitValue}
 use Rattle.jj_mirror.specs.Entries.{entry_of}
 use Rattle.jj_mirror.specs.Logs.{Appends}
-use Rattle.jj_sqlite.specs.Inserts.{ContainsEntries}
+use Rattle.jj_sqlite.specs.Inserts.{StoresEntries}
 use Rattle.jj_sqlite_tests.proofs.callers.log_commit.Goals as goal
 
 pub returns : goal.returns
-returns g c = subst (λ (commit : CommitValue). Appends (ContainsEntries g.S.Store) c.args.store.now.log.conn c.write_commit.new.self.log.conn (entry_of (commit_object commit)))
+returns g c = subst (λ (commit : CommitValue). Appends (StoresEntries g.S.Store) c.args.store.now.log.conn c.write_commit.new.self.log.conn (entry_of (commit_object commit)))
     c.in_ok-write_commit.ensures.signed c.in_ok-write_commit.ensures.logged

@@ -9,4 +9,9 @@ of_ok result value P is holds = subst (λ (r : Result _ _). IfOk r P) is holds
 pub returns-clause-logged : goal.returns-clause-logged
 returns-clause-logged g c = λ entries was_new.
     c.in_ok-files.ensures.entries (entries ++ entry_of (commit_object c.args.commit) ∷ [])
-    (of_ok c.write_stored-written.result.0 c.in_ok-id.id _ c.in_ok-id.was c.write_stored-written.ensures.logged entries was_new)
+    (of_ok c.write_stored-written.result.0 c.in_ok-id.id _ c.in_ok-id.was c.write_stored-written.ensures.logged entries was_new).now
+
+pub returns-clause-crash : goal.returns-clause-crash
+returns-clause-crash g c = λ entries was_new.
+    c.in_ok-files.ensures.crash (entries ++ entry_of (commit_object c.args.commit) ∷ [])
+    (of_ok c.write_stored-written.result.0 c.in_ok-id.id _ c.in_ok-id.was c.write_stored-written.ensures.logged entries was_new).now

@@ -1,0 +1,84 @@
+//! Proved callers: what a crash leaves of the commits that were written.
+ghost use Rattle.std.specs.Prelude.{◌⊎◌, ◌++◌, ℕ, List, take, map, IfOk, OnOk, OnErr};
+ghost use Rattle.sqlite_wal.specs.Recovery.{Image};
+ghost use Rattle.sqlite.specs.Files.{over_files};
+ghost use Rattle.sqlite.specs.Held.{state};
+ghost use Rattle.sqlite.specs.Start.{FindsIn};
+ghost use Rattle.sqlite.specs.State.{HasCleanDisk, IsLive, Opens};
+ghost use Rattle.sqlite_trees.specs.View.{IsClean};
+ghost use Rattle.sqlite_store.specs.FileStore.{view};
+ghost use Rattle.jj_mirror.specs.Entries.{LogEntryValue};
+ghost use Rattle.jj_mirror.specs.Logs.{Appends, Keeps};
+ghost use Rattle.jj_sqlite.specs.Inserts.{StoresEntries};
+ghost use Rattle.jj_sqlite_tests.specs.SavedFiles.{CrashLeaves, HasReplayAfterCrash, MayContain, file_entry};
+
+use jj_backend::backend::{Backend, BackendResult};
+use jj_mirror::mirrored::Mirrored;
+use jj_paths::repo_path::RepoPath;
+use jj_sqlite::error::OpenError;
+use jj_sqlite::sqlite_log::SqliteLog;
+use jj_sqlite::store::open_store;
+use jj_trees::memory_backend::MemoryBackend;
+use sqlite::{Alter, Connection, FileStore};
+use sqlite_disk::Disk;
+use std::alloc::Global;
+
+// Writes a file to a store.
+fn log_file<S: Alter>(
+    alloc: Global,
+    store: &mut Mirrored<MemoryBackend, SqliteLog<S>>,
+    contents: &[u8],
+) -> BackendResult<()>
+    ensures ok { OnOk result (Appends (StoresEntries S.Store) store.old.log.conn
+        store.new.log.conn (file_entry contents.now)) }
+    ensures err { OnErr result (Keeps (StoresEntries S.Store) store.old.log.conn
+        store.new.log.conn ⊎ Appends (StoresEntries S.Store) store.old.log.conn
+        store.new.log.conn (file_entry contents.now)) }
+{
+    store.write_file(alloc, RepoPath::root(), contents)?;
+    Ok(())
+}
+
+/// Writes files to a store, up to the first write that fails. The log has the entries of the files
+/// that were written, none of them skipped, and a crash leaves all of them and at most one more.
+pub fn write_files<S: Alter>(
+    alloc: Global,
+    store: &mut Mirrored<MemoryBackend, SqliteLog<S>>,
+    files: &[Vec<u8>],
+) -> BackendResult<()>
+    ensures ok { OnOk result ((entries : List LogEntryValue)
+        → StoresEntries S.Store store.old.log.conn entries → StoresEntries S.Store
+        store.new.log.conn (entries ++ map (λ file. file_entry file.items) files.now)) }
+    ensures err { OnErr result ((entries : List LogEntryValue)
+        → StoresEntries S.Store store.old.log.conn entries → (count : ℕ) × StoresEntries S.Store
+        store.new.log.conn
+        (entries ++ map (λ file. file_entry file.items) (take count files.now))) }
+{
+    for contents in files {
+        log_file(alloc, store, contents)?;
+    }
+    Ok(())
+}
+
+/// Gives up a connection without closing its files. Whoever opens what a crash at this moment may
+/// leave finds all entries of the log, and at most one more, whose write failed.
+pub fn abandon<D: Disk + Drop>(conn: Connection<FileStore<D>>) -> FileStore<D>
+    ensures { (entries : List LogEntryValue) → StoresEntries over_files conn entries
+        → IsClean (view result) → CrashLeaves result entries }
+{
+    conn.into_store()
+}
+
+/// Opens the store of a connection that was just opened on what a crash left. The backend has the
+/// objects of all entries of the log, and of at most one more, whose write failed.
+pub fn open_after_crash<S: Alter>(
+    alloc: Global,
+    conn: Connection<S>,
+) -> Result<Mirrored<MemoryBackend, SqliteLog<S>>, (OpenError, Connection<S>)>
+    ensures { IfOk result (λ store. HasCleanDisk (state S.Store store.log.conn)
+        → (image : Image) → FindsIn image (state S.Store conn) → Opens (state S.Store conn)
+        → IsLive (state S.Store conn) → (entries : List LogEntryValue)
+        → MayContain image entries → HasReplayAfterCrash entries store.backend) }
+{
+    open_store(alloc, conn)
+}
