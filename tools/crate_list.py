@@ -31,3 +31,13 @@ def is_test_support(name):
 def is_library(name):
     """A library for users: neither tests nor a program."""
     return not is_test_support(name) and not name.endswith("_cli")
+
+
+def layers():
+    """The crates by their height: a crate is one layer above the highest that it uses."""
+    known = crates()
+    below = {name: [it for it in deps if it in known] for name, deps in known.items() if not is_test_support(name)}
+    height = {}
+    while len(height) < len(below):
+        height |= {name: 1 + max((height[it] for it in deps), default=0) for name, deps in below.items() if all(it in height for it in deps)}
+    return [[name for name in below if height[name] == level] for level in range(max(height.values()), 0, -1)]

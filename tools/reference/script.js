@@ -1,0 +1,113 @@
+'use strict'
+// The definitions of a crate come as a script that calls `define`: pages that are opened as files may not read other files.
+const words = {}, scripts = {}, by = (id) => document.getElementById(id)
+let names = []
+const define = (crate, found) => { words[crate] = found }
+const define_names = (found) => { names = found }
+const load = (file) => scripts[file] ??= new Promise((done) => {
+  const script = document.createElement('script')
+  script.src = file
+  script.onload = script.onerror = done
+  document.head.append(script)
+})
+const make = (tag, set) => Object.assign(document.createElement(tag), set)
+const key_of = (link) => decodeURIComponent(link.getAttribute('href').split('#')[1])
+
+async function box_of(key, link) {
+  const crate = key.split('/')[0], ident = key.slice(crate.length + 1)
+  await load(`d/${crate}.js`)
+  const [doc, text, place] = words[crate]?.[ident] ?? ['', 'This definition is missing.', '']
+  const box = make('div', { className: 'def' })
+  box.innerHTML = `<button class=close aria-label=Close>×</button><a href="words.html#${key}"><b></b></a><p class=note></p><div></div><p class=where></p>`
+  box.querySelector('b').textContent = ident.split('.').pop()
+  box.querySelector('.note').innerHTML = doc
+  box.querySelector('div').innerHTML = text
+  box.querySelector('.where').textContent = place
+  for (const a of box.querySelectorAll('a[w],a[k]')) {
+    a.href = 'words.html#' + (a.getAttribute('w') ?? a.getAttribute('k'))
+    a.className = a.hasAttribute('k') ? 'd k' : 'd'
+  }
+  box.link = link
+  return box
+}
+
+function shut(box) {
+  box.link?.setAttribute('aria-expanded', 'false')
+  box.link?.focus()
+  box.remove()
+}
+
+async function toggle(link) {
+  if (link.box?.isConnected) return shut(link.box)
+  link.setAttribute('aria-expanded', 'true')
+  link.box = await box_of(key_of(link), link)
+  const block = link.closest('pre, .given, .meta')
+  ;(block ?? link).after(link.box)
+}
+
+// Unfolds all definitions below a contract, each once: the project's, and the toolchain's that these cite.
+async function toggle_all(button) {
+  const out = button.parentElement.nextElementSibling, opened = button.getAttribute('aria-expanded') == 'true'
+  button.setAttribute('aria-expanded', String(!opened))
+  button.textContent = opened ? 'Unfold all' : 'Fold all'
+  const kit = make('details', { innerHTML: '<summary>Words of the toolchain</summary>' }), ours = make('div'), seen = new Set()
+  const todo = opened ? [] : [...button.closest('.item').querySelectorAll(':scope > .clause a.d')]
+  for (const link of todo) {
+    if (seen.has(link.href)) continue
+    seen.add(link.href)
+    const box = await box_of(key_of(link), null), is_kit = link.classList.contains('k')
+    ;(is_kit ? kit : ours).append(box)
+    if (!is_kit) todo.push(...box.querySelectorAll('pre a.d'))
+  }
+  out.replaceChildren(...(opened ? [] : [ours, kit]))
+}
+
+function find() {
+  const asked = by('query').value.toLowerCase().split(/[\s:.]+/).filter(Boolean), last = asked.at(-1)
+  const rank = ([name, kind]) => {
+    const short = name.toLowerCase().split('::').pop()
+    return (short == last ? 0 : short.startsWith(last) ? 1 : short.includes(last) ? 2 : 3) + (kind == 'definition' ? 0.5 : 0)
+  }
+  const matches = (it) => asked.every((word) => `${it[2]} ${it[0]} ${it[4]}`.toLowerCase().includes(word))
+  const hits = asked.length ? names.filter(matches).sort((a, b) => rank(a) - rank(b)).slice(0, 30) : []
+  by('hits').replaceChildren(...hits.map(([name, kind, module, href, said]) => {
+    const row = make('li', { innerHTML: '<a><b></b> <span class=kind></span><br><span></span></a>' })
+    row.firstChild.href = href
+    row.querySelector('b').textContent = name
+    row.querySelector('.kind').textContent = `${kind} · ${module}`
+    row.querySelector('span:last-child').textContent = said
+    return row
+  }))
+}
+
+async function show_word() {
+  const key = decodeURIComponent(location.hash.slice(1)), crate = key.split('/')[0]
+  if (!by('word') || !key) return
+  if (key != crate) return by('word').replaceChildren(await box_of(key, null))
+  await load(`d/${crate}.js`)
+  const list = Object.keys(words[crate] ?? {}).map((it) => `<li><a href="#${crate}/${it}"><code>${it}</code></a>`)
+  by('word').innerHTML = `<h2>${crate}</h2><ul>${list.join('')}</ul>`
+}
+
+document.addEventListener('click', (event) => {
+  const link = event.target.closest('a.d')
+  if (link && !event.ctrlKey && !event.metaKey && !event.shiftKey) { event.preventDefault(); toggle(link) }
+  if (event.target.matches('.close')) shut(event.target.parentElement)
+  if (event.target.matches('.all')) toggle_all(event.target)
+  if (!event.target.closest('#search') || event.target.closest('#hits a')) by('hits').replaceChildren()
+})
+document.addEventListener('keydown', (event) => {
+  const box = event.target.closest('.def'), in_search = event.target.closest('#search'), step = { ArrowDown: 1, ArrowUp: -1 }[event.key]
+  if (event.key == 'Escape' && in_search) by('hits').replaceChildren()
+  else if (event.key == 'Escape' && (box || event.target.box?.isConnected)) shut(box ?? event.target.box)
+  if (event.key == '/' && !event.target.matches('input')) { event.preventDefault(); by('query').focus() }
+  if (event.key == 'Enter' && event.target == by('query')) by('hits').querySelector('a')?.click()
+  if (!in_search || !step) return
+  const rows = [by('query'), ...by('hits').querySelectorAll('a')]
+  event.preventDefault()
+  rows[rows.indexOf(event.target) + step]?.focus()
+})
+by('query').addEventListener('focus', () => load('search.js').then(find))
+by('query').addEventListener('input', find)
+addEventListener('hashchange', show_word)
+show_word()
