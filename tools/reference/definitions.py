@@ -278,7 +278,7 @@ class Declared:
 def declared_items(crate):
     """The types, traits and constants of a crate by name."""
     found = {}
-    for item in (it for source in sources(crate) for it in source.every_item()):
+    for item in (it for source in sources(crate) for it in source.top):
         if item.kind in (*TYPES, "const", "static") and (item.public or item.name not in found):
             found[item.name] = item
     return found

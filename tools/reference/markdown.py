@@ -28,7 +28,7 @@ def inline(text, link=lambda words: "", href=lambda target: target):
 def table(lines, line_of, row_id):
     rows = [[cell.strip() for cell in re.split(r"(?<!\\)\|", line.strip().strip("|"))] for line in lines]
     head = "".join(f"<th>{line_of(cell)}" for cell in rows[0])
-    body = "".join(f'<tr{row_id(index)}>' + "".join(f"<td>{line_of(cell)}" for cell in row) for index, row in enumerate(rows[2:], 2))
+    body = "".join(f'<tr{row_id(index)}>' + "".join(f"<td>{line_of(cell)}" for cell in row) + "<td>" * (len(rows[0]) - len(row)) for index, row in enumerate(rows[2:], 2))
     return f"<table><thead><tr>{head}</thead><tbody>{body}</tbody></table>"
 
 
@@ -39,7 +39,9 @@ def markdown(text, link=lambda words: "", href=lambda target: target, row_id=lam
     while at < len(lines):
         start = at
         first, take = lines[at], lambda test: next((i for i in range(start + 1, len(lines)) if not test(lines[i])), len(lines))
-        if first.startswith("```"):
+        if not first:
+            at += 1
+        elif first.startswith("```"):
             at = take(lambda line: not line.startswith("```")) + 1
             out.append(f"<pre>{html.escape(chr(10).join(lines[start + 1:at - 1]))}</pre>")
         elif first.startswith("    "):
@@ -59,5 +61,5 @@ def markdown(text, link=lambda words: "", href=lambda target: target, row_id=lam
         else:
             at = take(lambda line: line and not re.match(r"[#|]|[-*] |```", line))
             said = "\n".join(lines[start:at]).strip()
-            out.append(f"<p>{line_of(said)}</p>" if said and not said.startswith("<!--") else "")
+            out.append("" if said.startswith("<!--") else f"<p>{line_of(said)}</p>")
     return "".join(out)

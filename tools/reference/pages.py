@@ -77,7 +77,8 @@ class Site:
         tops = [it for it in items if not it.parent]
         below = [it for it in exports_of_modules(module)]
         link = self.link_in([module.crate])
-        body = [f"<h1>{module.name()}</h1>", markdown(module.doc, link)]
+        notes = " ".join(self.project.notes[module.crate])
+        body = [f"<h1>{module.name()}</h1>", markdown(module.doc, link), f"<p class=meta>Of the crate: {inline(notes, link)}</p>" if notes else ""]
         rows = "".join(f'<li><a href="{self.page_of(it)}"><code>{name}</code></a> {inline(first_sentence(it.doc))}' for name, it in below)
         body.append(f"<h2>Modules</h2><ul>{rows}</ul>" if rows else "")
         passed = [it for it in exports(module).values() if it and not isinstance(it, Source) and it.page and it.page != self.page_of(module)]

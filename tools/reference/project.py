@@ -8,27 +8,26 @@ from .receivers import CALL, Receivers
 from .sources import CRATES, FAULTS, TYPES, Source, exports, home_of, public_modules, sources
 
 SHOWN = [it for it in CRATES if not it.startswith("rows") and it != "conformance"]
-CALLERS = [it for it in SHOWN if it.endswith("_tests") or it in ("store_walks", "jj_history")]
+TESTS = [it for it in SHOWN if is_test_support(it)]
+GUARANTEES = ROOT / "docs/GUARANTEES.md"
 GUIDE = sorted((ROOT / "docs/guide").glob("*.md"))
 
 
 class Claim:
-    """A row of GUARANTEES: the claim, the items and clauses that it cites, and the names of its proved callers."""
+    """A row of GUARANTEES: the claim, what it cites as names with their clauses, and the names of its proved callers."""
 
-    def __init__(self, crate, number, text, cited, callers):
-        self.crate, self.number, self.text, self.callers = crate, number, text, callers
-        self.cited = [self.citation(it) for it in re.findall(r"`([^`]+)`", cited)]
-
-    def citation(self, words):
-        name, _, clauses = words.partition(": ")
-        return name, clauses.split(", ") if clauses else []
+    def __init__(self, crate, number, line):
+        claim, cited, *callers = (cell.strip() for cell in line.strip("|").split("|"))
+        self.crate, self.number, self.text, self.callers = crate, number, claim, re.findall(r"`(\w+)`", "".join(callers))
+        parts = (words.partition(": ") for words in re.findall(r"`([^`]+)`", cited))
+        self.cited = [(name, clauses.split(", ") if clauses else []) for name, _, clauses in parts]
 
 
 class Project:
-    """Every shown item, with its page and anchor, and the claims, callers and mutations of each."""
+    """Every shown item, with its page and anchor, and the claims, callers, mutations and pages of the guide of each."""
 
     def __init__(self):
-        self.by_name, self.on_page, self.claims, self.of_clause, self.callers, self.mutations, self.guide = (defaultdict(list) for _ in range(7))
+        self.by_name, self.on_page, self.claims, self.callers, self.mutations, self.guide, self.notes = (defaultdict(list) for _ in range(7))
         self.pages, self.rows = [], []
         for crate in SHOWN:
             self.place(crate)
@@ -46,73 +45,70 @@ class Project:
             for item in exports(module).values():
                 if item and not isinstance(item, Source) and item.source.crate == crate and (item not in homes or item.source is module):
                     homes[item] = module
-        impls = [it for source in sources(crate) for it in source.top if it.kind == "impl"]
+        impls, shown = [it for source in sources(crate) for it in source.top if it.kind == "impl"], {it.name for it in homes}
         for item, module in homes.items():
             self.add(item, module, item.name)
             for child in item.children if item.kind == "trait" else []:
                 self.add(child, module, f"{item.name}.{child.name}")
             for impl in impls if item.kind in TYPES else []:
-                trait = impl.trait_name()
+                trait, of = impl.trait_name() or ("", "")
                 if item.kind != "trait" and impl.type_name() == item.name:
-                    self.add_impl(impl, module, f"{item.name}.{trait[0]}" if trait else item.name)
-                elif item.kind == "trait" and trait and trait[0] == item.name and impl.type_name() not in {it.name for it in homes}:
-                    self.add_impl(impl, module, f"{item.name}.for.{re.sub(r'[^A-Za-z0-9]+', '-', trait[1]).strip('-')}")
+                    self.add_impl(impl, module, f"{item.name}.{trait}".rstrip("."))
+                elif item.kind == "trait" and trait == item.name and impl.type_name() not in shown:
+                    self.add_impl(impl, module, f"{item.name}.for.{re.sub(r'[^A-Za-z0-9]+', '-', of).strip('-')}")
 
     def add_impl(self, impl, module, prefix):
         for child in impl.children:
-            if child.public or (impl.trait_name() and (child.kind == "ghost" or child.clauses) and impl.trait_name()[0] != "Model"):
+            if child.public or impl.trait_name() and impl.trait_name()[0] != "Model" and (child.kind == "ghost" or child.clauses):
                 self.add(child, module, f"{prefix}.{child.name}")
 
     def add(self, item, module, anchor):
         if item.kind == "ghost use" or item.page:
             return
-        item.page = f"{module.crate}{'.' * bool(module.module)}{module.module}.html"
-        item.anchor = anchor
+        item.page, item.anchor = f"{'.'.join(filter(None, [module.crate, module.module]))}.html", anchor
         while any(it.anchor == item.anchor for it in self.on_page[module]):
             item.anchor += "-"
         self.on_page[module].append(item)
         self.by_name[item.name].append(item)
 
     def find(self, crate, words):
-        """The items of a crate that a document means by `Type::function` or `function`."""
+        """The items of a crate that a document means by `Type::function` or `function`, those with a page first."""
         *owner, name = words.split("::")
-        found = [it for source in sources(crate) for it in source.every_item() if it.name == name and it.kind != "ghost"]
+        found = [it for source in sources(crate) for it in source.by_name.get(name, []) if it.kind != "ghost"]
         found = [it for it in found if not owner or owner[-1] in (it.owner(), *(it.anchor or "").split("."))]
         of_trait = {it.parent.trait_name()[0] for it in found if not it.anchor and it.parent and it.parent.trait_name()}
         found += [it for it in self.by_name[name] if it.owner() in of_trait]
         return sorted(found, key=lambda it: (not it.anchor, bool(it.parent)))
 
     def read_guarantees(self):
-        crate, place = "", "docs/GUARANTEES.md"
-        for number, line in enumerate((ROOT / place).read_text().splitlines(), 1):
+        crate = ""
+        for number, line in enumerate(GUARANTEES.read_text().splitlines(), 1):
             if found := re.match(r"## `(\w+)`", line):
                 crate = found[1]
-            elif line.startswith("| ") and not line.startswith("| Claim") and crate:
-                cells = [cell.strip() for cell in line.strip("|").split("|")]
-                claim = Claim(crate, number, cells[0], cells[1], re.findall(r"`(\w+)`", cells[2] if cells[2:] else ""))
-                self.rows.append(claim)
-                FAULTS.extend(f"{place}:{number}: {words}" for words in self.unknown(claim))
+            elif crate and not line.startswith("|"):
+                self.notes[crate] += [line] if line else []
+            elif crate and not line.startswith(("| Claim", "|---")):
+                self.rows.append(Claim(crate, number, line))
+                FAULTS.extend(f"docs/GUARANTEES.md:{number}: {words}" for words in self.enter(self.rows[-1]))
 
-    def unknown(self, claim):
+    def enter(self, claim):
         """Enters a claim at what it cites. Yields what is not found."""
         for name, clauses in claim.cited:
             file = next((it for it in sources(claim.crate) if str(it.path).endswith("/" + name)), None)
-            items = self.find(claim.crate, name) if not file else [it for it in file.every_item() if it.anchor]
+            items = [] if file else self.find(claim.crate, name)
             if not items and not file:
                 yield f"cites {name}, which {claim.crate} does not have"
-            for item in items if not file else []:
+            for item in items:
                 self.claims[item].append(claim)
-            for clause in clauses:
-                owners = [it for it in items if clause in [it[1] for it in it.clauses] or clause in [child.name for child in it.children]]
-                if not owners and not (file and (clause[0].isupper() or re.search(rf"\bghost {clause}\b", file.code))):
+            there = {it for item in items for it in (*(clause.name for clause in item.clauses), *(child.name for child in item.children))}
+            for clause in (it for it in clauses if it not in there):
+                if not (file and (clause[0].isupper() or re.search(rf"\bghost {clause}\b", file.code))):
                     yield f"cites the clause {clause}, which {name} does not have"
-                for item in owners:
-                    self.of_clause[item, clause].append(claim)
         yield from (f"cites the caller {it}, which is not there" for it in claim.callers if not self.by_name[it])
 
     def read_mutations(self):
         """Enters each mutation at the public functions that it changes, or else at the nearest that call what it changes."""
-        for crate in (it for it in SHOWN if not is_test_support(it)):
+        for crate in (it for it in SHOWN if it not in TESTS):
             functions = [it for source in sources(crate) for it in source.every_item() if it.kind == "fn"]
             names = [it.name for it in functions]
             called = {it: set(re.findall(r"\b" + CALL, it.body)) for it in functions}
@@ -128,18 +124,20 @@ class Project:
                     self.mutations[item].append((file.stem, said.get("new", "").strip()))
 
     def read_callers(self):
-        for caller in (it for crate in CALLERS for source in sources(crate) for it in source.every_item() if it.kind == "fn" and it.anchor):
+        """Enters each function with a contract of a crate of tests, or of one beside them, at the functions of other crates that it calls."""
+        beside = [it for it in ("store_walks", "jj_history") if it in SHOWN]
+        for caller in (it for crate in TESTS + beside for source in sources(crate) for it in source.every_item() if it.kind == "fn" and it.anchor):
             if any(it.kind.startswith("ensures") for it in caller.clauses):
                 receivers = Receivers(caller)
-                for item in {it for _, name in receivers.called() for it in self.by_name[name]}:
-                    used = item.source.crate in CRATES[caller.source.crate]
-                    if item.kind == "fn" and used and item.source.crate not in CALLERS[:-2] and receivers.calls(item):
+                for item in {it for _, name in receivers.called for it in self.by_name[name]}:
+                    is_below = item.source.crate in CRATES[caller.source.crate] and item.source.crate not in TESTS
+                    if item.kind == "fn" and is_below and receivers.calls(item):
                         self.callers[item].append(caller)
 
     def read_guide(self):
-        """Enters each page of the guide at the public names that it cites."""
+        """Enters each page of the guide at the public names that it cites, of the crates in its title."""
         for page in GUIDE:
-            for words in set(re.findall(r"`([\w:]+)`", page.read_text())):
-                crates = re.findall(r"`(\w+)`", page.read_text().split("\n", 1)[0])
-                for item in (it for crate in crates if crate in CRATES for it in self.find(crate, words) if it.anchor):
+            title, _, text = page.read_text().partition("\n")
+            for words in set(re.findall(r"`([\w:]+)`", text)):
+                for item in (it for crate in re.findall(r"`(\w+)`", title) if crate in CRATES for it in self.find(crate, words) if it.anchor):
                     self.guide[item].append(page)

@@ -3,7 +3,8 @@
 No full parser: a tokenizer with bracket matching. A form that it cannot read is added to `FAULTS`, with its file and line.
 """
 import re
-from functools import lru_cache
+from collections import defaultdict
+from functools import cached_property, lru_cache
 from typing import NamedTuple
 
 from crate_list import ROOT, crates
@@ -12,6 +13,7 @@ from toolchain import toolchain
 CRATES = crates()
 FAULTS = []
 
+BRACKET, GAP = re.compile(r"[([{}\])]"), re.compile(r"[\s,;]*")
 LITERAL = re.compile(r"""//[^\n]*|/\*.*?\*/|b?r(\#*)".*?"\1|b?"(?:\\.|[^"\\])*"|(?<![\w'])b?'(?:\\(?:u\{[^}]*\}|x..|.)|[^'\\\n])'""", re.S)
 FIRST_WORDS = re.compile(r"""(?P<vis>pub(?:\([^)]*\))?\s+)?(?P<quals>(?:(?:const|unsafe|final|default|extern\s+"\s*"|ghost)\s+)*)
     (?P<kind>fn|struct|enum|trait|type|const|static|mod|use|impl|ghost)\b\s*(?P<name>\w*)""", re.X)
@@ -43,7 +45,7 @@ def masked(text):
 def closing(code, start):
     """The index after the bracket that closes the one at `start`, or None."""
     depth = 0
-    for found in re.compile(r"[([{}\])]").finditer(code, start):
+    for found in BRACKET.finditer(code, start):
         depth += 1 if found[0] in "([{" else -1
         if depth == 0:
             return found.end()
@@ -108,17 +110,15 @@ class Item:
         self.public = bool(words and (words["vis"] or "").strip() == "pub")
         if words and "ghost" in words["quals"]:
             self.kind = "ghost use"
-        self.doc = comment_lines(text[gap:start], "///")
-        self.note = self.doc or comment_lines(text[gap:start], "//")
         self.clauses, self.children, self.anchor, self.page = [], [], None, None
         self.head, self.body = text[start:end], ""
         if not words and not MACRO.match(code, start):
             source.fault(start, "is no item that can be read")
-        elif self.kind == "fn":
+        elif self.kind == "fn" and source.crate in CRATES:
             self.read_function(text, code)
         elif self.kind in ("impl", "trait", "mod", "struct", "enum") and (brace := outside_brackets(code, start, end, r"\{")):
             self.head = text[start:brace.start()]
-            if self.kind in ("impl", "trait", "mod"):
+            if self.kind in ("trait", "mod") or self.kind == "impl" and (source.crate in CRATES or self.trait_name()):
                 self.children = source.items(brace.end(), end - 1, self)
         elif self.kind == "ghost" and parent:
             said = text[code.index("=" if parent.kind == "impl" else ":", start) + 1:end]
@@ -129,7 +129,7 @@ class Item:
         at = found.start() if found else self.end
         self.head = text[self.start:at].rstrip().rstrip(",")
         while True:
-            begin = re.compile(r"[\s,]*").match(code, at).end()
+            begin = GAP.match(code, at).end() if code[at] != ";" else at
             if not (clause := CLAUSE.match(code, begin)):
                 break
             end = closing(code, clause.end() - 1)
@@ -139,6 +139,14 @@ class Item:
         if code[begin] not in "{;" or not self.name:
             self.source.fault(begin, f"the contract of {self.name or 'a function'} has a form that cannot be read")
         self.body = code[at:self.end]
+
+    @cached_property
+    def doc(self):
+        return comment_lines(self.source.text[self.gap:self.start], "///")
+
+    @cached_property
+    def note(self):
+        return self.doc or comment_lines(self.source.text[self.gap:self.start], "//")
 
     @lru_cache(None)
     def trait_name(self):
@@ -181,6 +189,9 @@ class Source:
         self.code = masked(self.text)
         self.doc = "\n".join(re.findall(r"^//! ?(.*)", self.text, re.M))
         self.top = self.items(0, len(self.code), None)
+        self.by_name = defaultdict(list)
+        for item in self.every_item():
+            self.by_name[item.name].append(item)
         self.names = {it.name: it for it in self.top if it.name and it.kind not in ("mod", "use", "impl")}
 
     def fault(self, index, what):
@@ -191,7 +202,7 @@ class Source:
     def items(self, start, end, parent):
         found, gap = [], start
         while True:
-            start = re.compile(r"[\s,;]*").match(self.code, start, end).end()
+            start = GAP.match(self.code, start, end).end()
             if start >= end:
                 return found
             attribute = self.code[start] == "#"
