@@ -111,8 +111,7 @@ class Receivers:
     def calls(self, item):
         """Whether the item is called: by its name and owner, or by its name if only one type of the project has such a method."""
         _, _, traits, owners = declared()
-        trait = item.parent and (item.parent.name if item.parent.kind == "trait" else (item.parent.trait_name() or [None])[0])
-        here = {item.owner(), *([trait] if trait else [])}
-        here |= {it for it in traits if trait in traits[it]} if item.parent and item.parent.kind == "trait" else set()
+        of_trait = item.parent and item.parent.kind == "trait"
+        here = {item.owner(), *(it for it in traits if of_trait and item.owner() in traits[it])}
         unknown = item.parent and owners[item.name] <= here and re.search(rf"\b{re.escape(item.owner())}\b", self.item.source.text)
         return any((it, item.name) in self.called for it in here) or bool(unknown and (None, item.name) in self.called)
