@@ -12,7 +12,8 @@ from .sources import CRATES, FAULTS, TYPES, home_of, sources, toolchain_home
 STD = ["std", "core", "std_alloc", "std_collections", "std_io", "io"]
 LOGIC = {"lib", "denote", "base", "borrow", "mir", "prog", "store", "types", "abs", "contract", "ghost", "sound"}
 USE = re.compile(r"^[ \t]*((?:pub |ghost |unfoldable )*)use\s+([^\s{;]+?)(?:\.\{([^}]*)\}|\s+as\s+([^\s;]+))?\s*;?[ \t]*$", re.M)
-NEW = re.compile(r"(?:(?:pub|abbrev|unfoldable|data|record|axiom|ruleset)\s+)*([^\s(){}:]+)(?=\s*[:({]|\s+where)")
+KEYWORD = r"(?:pub|abbrev|unfoldable|data|record|axiom|ruleset)\b"
+NEW = re.compile(rf"(?:{KEYWORD}\s+)*(?!{KEYWORD})([^\s(){{}}:]+)(?=\s*[:({{]|\s+where)")
 # A comment that goes on where the one before it ended.
 LEANS = re.compile(r"(?:or|of|by|and|but|so|also|then|such)\b|(?:where|with) [^,]*$|.*\bas above\b", re.S)
 MIXFIX = "◌≡◌ ◌≢◌ ◌↔◌ ◌⊎◌ ◌++◌ ◌∷◌ ◌==◌ ◌&&◌ ◌||◌ ◌+ℤ◌ ◌-ℤ◌ ◌*ℤ◌ ◌≤ℤ◌ ◌<ℤ◌ ◌∈◌ if◌then◌else◌"
@@ -195,7 +196,7 @@ class Module:
 
     def read_line(self, number, line, bare, current, comment, context, mutual):
         """Begins a definition, or adds an equation to the current one. Returns the definition that the next lines belong to."""
-        keyword = re.match(r"(pub|abbrev|unfoldable|data|record|axiom|ruleset)\b", bare)
+        keyword = re.match(KEYWORD, bare)
         new = NEW.match(bare)
         if new and (keyword or re.match(r"\S+ :", bare)):
             kind = "definition" if mutual or re.search(r"abbrev|unfoldable|data|record", bare.split(new[1])[0]) else "proof"

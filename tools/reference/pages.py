@@ -182,7 +182,7 @@ class Site:
             here, text = [], Text(re.sub(r"\n\s+", "\n  ", clause.text), scope, hidden)
             body = text.html(here, roots)
             cited += here
-            FAULTS.extend(f"{item.source.where()}:{item.line()}: {item.path()}: the clause {clause.name} cites {it}, which is not found"
+            FAULTS.extend(f"crates/{item.source.where()}:{item.line()}: {item.path()}: the clause {clause.name} cites {it}, which is not found"
                           for it in text.missing() if self.is_unknown(it, scope))
             title = f'<span class=kw>{clause.kind}</span> <a href="{link_to(item, clause)}"><b>{clause.name}</b></a>'
             said = f"<p class=note>{inline(clause.note)}</p>" if clause.note else ""
@@ -210,7 +210,7 @@ class Site:
     @staticmethod
     def is_unknown(token, scope):
         head = token.split(".")[0]
-        looks_defined = head in scope.names or head in scope.modules or re.fullmatch(r"[A-Z]\w+(\.\w+)*|[a-z]+_\w+", token)
+        looks_defined = head in scope.names or head in scope.modules or re.fullmatch(r"[A-Z]\w+(\.\w+)*|[a-z]\w*_\w+", token)
         return head not in BUILT_IN and looks_defined and not GENERATED.match(head)
 
     def mentions(self, item):
@@ -219,12 +219,13 @@ class Site:
         named = {name for claim in project.claims[item] for name in claim.callers}
         callers = list(dict.fromkeys([*project.callers[item], *(it for name in sorted(named) for it in project.by_name[name] if it.source.crate in TESTS)]))
         shows = [it for it in project.rows if item.name in it.callers and item.source.crate == f"{it.crate}_tests"]
-        guide, mutations = list(dict.fromkeys(project.guide[item])), project.mutations[item]
+        guide, mutations = list(dict.fromkeys(project.guide[item])), [("", *it) for it in project.mutations[item]]
+        mutations += [(f" of {it.path()}", *found) for it in callers for found in project.mutations[it]]
         rows = [f"Proved caller {code_link(it, f'{it.source.crate}::{it.path()}')}: {inline(first_sentence(it.note))}" for it in callers[:MOST_CALLERS]]
         rows += [f"{len(callers) - MOST_CALLERS} more proved callers"] if callers[MOST_CALLERS:] else []
         rows += [f"Shows the claim: {row_link(it, inline(it.text))}" for it in shows]
         rows += [f'Guide: <a href="{document_page(it)}">{inline(title_of(it))}</a>' for it in guide]
-        rows += [f"Mutation that is rejected: <code>{name}</code>, <code>{html.escape(new)}</code>" for name, new in mutations]
+        rows += [f"Mutation{of} that is rejected: <code>{name}</code>, <code>{html.escape(new)}</code>" for of, name, new in mutations]
         kinds = ((callers, "proved caller"), (shows, "claim"), (guide, "guide page"), (mutations, "mutation"))
         said = ", ".join(f"{len(them)} {what}{'s' * (len(them) > 1)}" for them, what in kinds if them)
         return f"<details><summary>{said}</summary>{listed(rows)}</details>" if said else ""
@@ -237,7 +238,8 @@ class Site:
 
         text, number, out = path.read_text(), 0, []
         if path != GUARANTEES:
-            return markdown(text, self.link_in([it for it in re.findall(r"`(\w+)`", title_of(path)) if it in CRATES]), href)
+            named = re.findall(r"`(\w+)`", title_of(path))
+            return markdown(text, self.link_in([it for it in (*named, *(f"{it}_tests" for it in named)) if it in CRATES]), href)
         for part in re.split(r"^(?=## `)", text, flags=re.M):
             crate = re.match(r"## `(\w+)`|", part)[1]
             out.append(markdown(part, self.citation(crate) if crate else lambda words: "", href, lambda line, start=number: f' id="row-{start + line}"'))
@@ -258,7 +260,8 @@ class Site:
         body = ["<h1>Reference of jj-core in Rattle</h1><p>Every public item of the libraries, with the contract that the prover has shown. A crate uses "
                 "the crates of the layers below it.</p>"]
         shown = [[it for it in names if it in SHOWN] for names in layers()]
-        groups = [(f"Layer {len(shown) - index}", names) for index, names in enumerate(shown)] + [("Proved callers and tests", TESTS)]
+        groups = [(f"Layer {len(shown) - index}", names) for index, names in enumerate(shown)]
+        groups.append(("Proved callers and tests", [it for it in SHOWN if it not in sum(shown, [])]))
         body += [f"<h2>{title}</h2><dl>{''.join(map(self.crate_row, names))}</dl>" for title, names in groups]
         return "".join(body) + listed([f'<a href="{document_page(it)}">{inline(title_of(it))}</a>' for it in DOCUMENTS], "Documents")
 
@@ -278,7 +281,7 @@ class Site:
                 self.search.append([it.name, it.kind, it.where, f"words.html#{it.key}", first_sentence(it.doc).replace("`", "")])
         for crate, found in by_crate.items():
             self.files[f"d/{crate}.js"] = f'define("{crate}",{json.dumps(found, ensure_ascii=False, separators=(",", ":"))})'
-        rows = listed(f'<a href="words.html#{crate}"><code>{crate}</code></a>: {len(found)} words' for crate, found in by_crate.items())
+        rows = listed(f'<a href="words.html#{crate}"><code>{crate}</code></a> {len(found)}' for crate, found in by_crate.items())
         self.files["words.html"] = page("Words", f"<h1>Words</h1><div id=word></div><p>The definitions that contracts cite, by crate.</p>{rows}")
 
 
@@ -302,8 +305,10 @@ def items_without_page(crate):
         read = {it.start for it in source.every_item()}
         for found in re.finditer(r'^(?: {4})?(?=pub (?:const |unsafe |extern "\s*" )*(?:fn|struct|enum|trait|type|const|static)\b)', source.code, re.M):
             if found.end() not in read:
-                yield f"{source.where()}:{source.code.count(chr(10), 0, found.end()) + 1}: a public item was not read"
+                yield f"crates/{source.where()}:{source.code.count(chr(10), 0, found.end()) + 1}: a public item was not read"
     impls = [it for source in sources(crate) for it in source.top if it.kind == "impl"]
     for item in (it for module in public_modules(crate) for it in exports(module).values() if it and not isinstance(it, Source) and it.source.crate == crate):
         methods = (it for impl in impls if impl.type_name() == item.name for it in impl.children)
-        yield from (f"{it.source.where()}:{it.line()}: {it.path()} has no page" for it in (item, *methods) if it.public and not it.page)
+        members = [it for it in item.children if it.kind != "ghost use"]
+        lost = (it for it in (item, *methods, *members) if (it.public or it in members) and not it.page)
+        yield from (f"crates/{it.source.where()}:{it.line()}: {it.path()} has no page" for it in lost)

@@ -9,6 +9,9 @@ from .sources import CRATES, FAULTS, TYPES, Source, exports, home_of, public_mod
 
 SHOWN = [it for it in CRATES if not it.startswith("rows") and it != "conformance"]
 TESTS = [it for it in SHOWN if is_test_support(it)]
+USED = {it for name in CRATES if not is_test_support(name) for it in CRATES[name]}
+# The crates whose functions are callers of the libraries: tests, what no library uses, and the walks of a store.
+CALLERS = [it for it in SHOWN if it in TESTS or it not in USED or it == "store_walks"]
 GUARANTEES = ROOT / "docs/GUARANTEES.md"
 GUIDE = sorted((ROOT / "docs/guide").glob("*.md"))
 
@@ -124,9 +127,8 @@ class Project:
                     self.mutations[item].append((file.stem, said.get("new", "").strip()))
 
     def read_callers(self):
-        """Enters each function with a contract of a crate of tests, or of one beside them, at the functions of other crates that it calls."""
-        beside = [it for it in ("store_walks", "jj_history") if it in SHOWN]
-        for caller in (it for crate in TESTS + beside for source in sources(crate) for it in source.every_item() if it.kind == "fn" and it.anchor):
+        """Enters each function with a contract of a crate of callers at the functions of the libraries below that it calls."""
+        for caller in (it for crate in CALLERS for source in sources(crate) for it in source.every_item() if it.kind == "fn" and it.anchor):
             if any(it.kind.startswith("ensures") for it in caller.clauses):
                 receivers = Receivers(caller)
                 for item in {it for _, name in receivers.called for it in self.by_name[name]}:
