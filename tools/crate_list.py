@@ -1,4 +1,6 @@
-"""The crates of the repository, as crates.txt lists them."""
+"""The crates of the repository, as crates.txt lists them, and the built programs."""
+import subprocess
+import sys
 from pathlib import Path
 
 ROOT = Path(__file__).resolve().parent.parent
@@ -41,3 +43,11 @@ def layers():
     while len(height) < len(below):
         height |= {name: 1 + max((height[it] for it in deps), default=0) for name, deps in below.items() if all(it in height for it in deps)}
     return [[name for name in below if height[name] == level] for level in range(max(height.values()), 0, -1)]
+
+
+def program_path(name):
+    """The path of a built program, as tools/program-path prints it. Ends this program with status 3 if it is not built."""
+    ran = subprocess.run([ROOT / "tools/program-path", name], stdout=subprocess.PIPE, text=True, check=False)
+    if ran.returncode:
+        sys.exit(3)
+    return Path(ran.stdout.strip())

@@ -1,0 +1,2 @@
+#compdef jj-filesets
+_arguments '1:expression:_files'

@@ -1,0 +1,9 @@
+# Completion of jj-history for bash.
+_jj_history() {
+    COMPREPLY=()
+    case $COMP_CWORD in
+        1) mapfile -t COMPREPLY < <(compgen -f -- "${COMP_WORDS[COMP_CWORD]}") ;;
+        2) mapfile -t COMPREPLY < <(compgen -W 'write merge' -- "${COMP_WORDS[COMP_CWORD]}") ;;
+    esac
+}
+complete -F _jj_history jj-history

@@ -1,0 +1,2 @@
+# Completion of jj-log for bash: it takes no arguments.
+complete -W '' jj-log

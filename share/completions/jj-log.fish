@@ -1,0 +1,2 @@
+# Completion of jj-log for fish: it takes no arguments.
+complete -c jj-log -f

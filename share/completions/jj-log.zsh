@@ -1,0 +1,2 @@
+#compdef jj-log
+_message 'no arguments; commits are read from standard input'
