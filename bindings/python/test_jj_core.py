@@ -1,4 +1,7 @@
-"""Tests of jj_core: digests against hashlib, rows of the conformance table, and errors. Run by bindings/check."""
+"""Tests of the installed package jj_core: digests against hashlib, rows of the conformance table, errors, and the examples of its functions.
+Run by bindings/check."""
+import array
+import doctest
 import hashlib
 import random
 import re
@@ -33,11 +36,53 @@ def content(item):
     return struct.pack("<Q", len(item)) + item
 
 
+def load_tests(loader, tests, pattern):
+    tests.addTests(doctest.DocTestSuite(jj_core))
+    return tests
+
+
 class Test(unittest.TestCase):
-    def raises(self, status, call, *arguments):
+    def raises(self, status, message, call, *arguments):
+        """The call raises a JjError with this status, and with a message that has these words."""
         with self.assertRaises(jj_core.JjError) as caught:
             call(*arguments)
         self.assertEqual(caught.exception.status, status)
+        self.assertIsInstance(caught.exception, ValueError)
+        self.assertIn(message, str(caught.exception))
+
+    def refuses(self, message, call, *arguments):
+        """The call raises a TypeError with a message that has these words."""
+        with self.assertRaises(TypeError) as caught:
+            call(*arguments)
+        self.assertIn(message, str(caught.exception))
+
+    def test_types(self):
+        self.refuses("data must be bytes or str, not int", jj_core.hash, 5)
+        self.refuses("data must be bytes or str, not int", jj_core.Hasher().update, 5)
+        self.refuses("data must be bytes or str, not list", jj_core.hex_encode, [1, 2])
+        self.refuses("items[1] must be bytes or str, not NoneType", jj_core.content_hash_list, ["a", None])
+        self.refuses("items must be a list of byte strings, not one str", jj_core.content_hash_list, "ab")
+        self.refuses("paths must be a list of byte strings, not one bytes", jj_core.glob_matches, "*", b"ab")
+        self.refuses("paths must be a list of byte strings, not int", jj_core.fileset_matches, "a", 3)
+        self.refuses("separator must be True or False, not int", jj_core.glob_matches, "*", [], 1)
+        self.refuses("reverse must be True or False, not bytes", jj_core.hex_prefix_matches, "0", b"0", b"0")
+        self.refuses("nodes[1] must be an int, not str", jj_core.heads, [[]], [0, "0"])
+        self.refuses("graph[0] must be a list of nodes, not int", jj_core.heads, [0], [0])
+        self.refuses("merges[0] must be a list of terms, not one str", jj_core.flatten, ["a"])
+        self.assertEqual(jj_core.hash(array.array("B", b"ab")), jj_core.hash(bytearray(b"ab")))
+        self.assertEqual(jj_core.hash(memoryview(b"abcd")[::2]), jj_core.hash("ac"))
+        self.assertEqual(jj_core.glob_matches("a", (it for it in ["a", "b"])), [True, False])
+
+    def test_values(self):
+        self.assertEqual(jj_core.hex_encode("\u00e4"), "c3a4")
+        self.assertEqual(jj_core.hex_encode("\u00e4", True), "nwpv")
+        self.raises("JJ_NODE", "nodes[0] is 18446744073709551616;", jj_core.heads, [[]], [2**64])
+        self.raises("JJ_NODE", "graph[0][0] is 18446744073709551616;", jj_core.heads, [[2**64]], [0])
+        self.raises("JJ_NODE", "nodes[0] is -1;", jj_core.order, [[]], [-1])
+        self.raises("JJ_NODE", "set2[1] is 1;", jj_core.closest_common, [[]], [0], [0, 1])
+        self.raises("JJ_NODE", "below 0", jj_core.heads, [], [0])
+        with self.assertRaises(ValueError):
+            jj_core.hash("\ud800")
 
     def test_digests(self):
         numbers = random.Random(1)
@@ -72,22 +117,24 @@ class Test(unittest.TestCase):
         self.assertEqual(jj_core.hex_encode(b"\x01\xef"), "01ef")
         self.assertEqual(jj_core.hex_encode(b"\x01\xef", True), "zylk")
         self.assertEqual(jj_core.hex_decode("ZYlk", True), b"\x01\xef")
-        self.raises("JJ_SYNTAX", jj_core.hex_decode, "0g")
-        self.raises("JJ_SYNTAX", jj_core.hex_decode, "0")
+        self.raises("JJ_SYNTAX", "'g' at index 1", jj_core.hex_decode, "0g")
+        self.raises("JJ_SYNTAX", "1 digits", jj_core.hex_decode, "0")
+        self.raises("JJ_SYNTAX", "'0' at index 2, which is no reverse hex digit", jj_core.hex_prefix_matches, "zy0", b"", True)
         self.assertTrue(jj_core.hex_prefix_matches("01E", b"\x01\xef"))
         self.assertFalse(jj_core.hex_prefix_matches("01d", b"\x01\xef"))
 
     def test_globs(self):
         for (separator, icase, glob, *paths), expected in rows("glob-match"):
             self.assertEqual(jj_core.glob_matches(glob, paths, separator == b"1", icase == b"1"), [it == b"true" for it in expected])
-        self.raises("JJ_SYNTAX", jj_core.glob_matches, b"\xff", [])
+        self.raises("JJ_SYNTAX", "is no glob", jj_core.glob_matches, b"\xff", [])
+        self.raises("JJ_SYNTAX", "'[a' is no glob", jj_core.glob_matches, "[a", [])
 
     def test_filesets(self):
         paths = ["src/lib.rs", "tests/t.rs", "README.md"]
         self.assertEqual(jj_core.fileset_matches("src | **/*.rs ~ tests", paths), [True, False, False])
         self.assertEqual(jj_core.fileset_matches("~file:README.md", paths), [True, True, False])
-        self.raises("JJ_EXPRESSION", jj_core.fileset_matches, "src &", paths)
-        self.raises("JJ_PATH", jj_core.fileset_matches, "src", [b"\xff"])
+        self.raises("JJ_EXPRESSION", "'src &' is no expression", jj_core.fileset_matches, "src &", paths)
+        self.raises("JJ_PATH", "paths[1] is not UTF-8 at byte 1", jj_core.fileset_matches, "src", ["a", b"a\xff"])
 
     def test_walks(self):
         path = lambda field: b"" if field == b"." else field
@@ -100,7 +147,8 @@ class Test(unittest.TestCase):
                 self.assertEqual(jj_core.walk(listed, files, kind == b"prefix"), wanted)
                 checked += 1
         self.assertGreaterEqual(checked, 7)
-        self.raises("JJ_PATH", jj_core.walk, ["a"], ["a//b"])
+        self.raises("JJ_PATH", "files[0] has an empty component: 'a//b'", jj_core.walk, ["a"], ["a//b"])
+        self.raises("JJ_PATH", "listed[0] has an empty component: '/a'", jj_core.walk, ["/a"], ["a"])
 
     def test_merges(self):
         for terms, expected in rows("merge-simplify"):
@@ -108,24 +156,27 @@ class Test(unittest.TestCase):
         self.assertEqual(jj_core.resolve(["a", "b", "b"]), 0)
         self.assertIsNone(jj_core.resolve(["a", "b", "a"]))
         self.assertEqual(jj_core.resolve(["a", "b", "a"], True), 0)
-        self.raises("JJ_TERMS", jj_core.simplify, ["a", "b"])
+        self.raises("JJ_TERMS", "terms has 2 terms", jj_core.simplify, ["a", "b"])
+        self.raises("JJ_TERMS", "terms has 0 terms", jj_core.resolve, [])
 
     def test_flattening(self):
         for given, expected in rows("merge-flatten"):
             merges = [list(merge) for bar, merge in groupby(given, lambda it: it == b"|") if not bar]
             if expected[0].startswith(b"precondition"):
-                self.raises("JJ_TERMS", jj_core.flatten, merges)
+                self.raises("JJ_TERMS", "odd number", jj_core.flatten, merges)
             else:
                 self.assertEqual(jj_core.flatten(merges), expected)
-        self.raises("JJ_TERMS", jj_core.flatten, ["a", "bc", "d"])
+        self.raises("JJ_TERMS", "merges[1] has 2 terms", jj_core.flatten, [["a"], ["b", "c"], ["d"]])
+        self.raises("JJ_TERMS", "merges has 2 terms", jj_core.flatten, [["a"], ["b"]])
 
     def test_graphs(self):
         diamond = [[], [0], [0], [1, 2], [2, 1]]
         self.assertEqual(jj_core.order(diamond, [3]), [3, 2, 1, 0])
         self.assertEqual(jj_core.heads(diamond, [0, 1, 3]), [3])
         self.assertEqual(jj_core.closest_common(diamond, [3], [4]), [1, 2])
-        self.raises("JJ_CYCLE", jj_core.heads, [[1], [0]], [0])
-        self.raises("JJ_NODE", jj_core.heads, [[1]], [0])
+        self.raises("JJ_CYCLE", "on a cycle", jj_core.heads, [[1], [0]], [0])
+        self.raises("JJ_CYCLE", "graph[2] is on a cycle", jj_core.order, [[], [2, 0], [2]], [1])
+        self.raises("JJ_NODE", "graph[0][0] is 1;", jj_core.heads, [[1]], [0])
 
     def test_threads(self):
         found = [None] * 4

@@ -1,166 +1,75 @@
-//! Digests, hex, globs, merges and graphs of the Rust crate `jj-core`, from a library whose every function is proved in Rattle.
+//! Digests, hex, globs, file sets, walks, conflicts and commit graphs of the Rust crate `jj-core`, from a library whose every function is
+//! proved in Rattle.
 //!
 //! Each function takes slices and returns a `Result`. The library keeps no pointer, has no global state, and may be called from any
-//! threads. Proved is the library; trusted are the declarations in `ffi.rs`, and what this file passes to them.
+//! threads. Proved is the library; trusted are the declarations in `ffi.rs`, and what this crate passes to them.
 //!
 //! ```
-//! use jj_core_verified::{glob_matches, resolve, Joined};
+//! use jj_core_verified::{closest_common, fileset_matches, resolve, Graph, Joined};
 //! let paths = Joined::new(&["src/lib.rs", "README.md"]);
-//! assert_eq!(glob_matches("src/**/*.rs", true, false, &paths)?, [true, false]);
+//! assert_eq!(fileset_matches("src & **/*.rs", &paths)?, [true, false]);
 //! assert_eq!(resolve(&Joined::new(&["a", "b", "b"]), false)?, Some(0));
+//! let parents = Graph::new(&[vec![], vec![0], vec![0]]);
+//! assert_eq!(closest_common(&parents, &[1], &[2])?, [0]);
 //! # Ok::<(), jj_core_verified::Error>(())
 //! ```
-mod ffi;
+#![warn(missing_docs)]
 
-use std::fmt;
+mod error;
+mod ffi;
+mod lists;
+
+pub use error::{Error, ErrorKind};
+use error::{number, only};
+pub use lists::{Graph, Joined};
 
 /// The length of a digest.
 pub const DIGEST_LENGTH: usize = 64;
 
-/// A negative status of the library.
-#[derive(Clone, Copy, Debug, PartialEq, Eq)]
-pub enum Error {
-    /// Memory ran out, or a glob has 1,048,576 states or more.
-    Memory,
-    /// Ends descend, or exceed the length of the list that they divide.
-    Ends,
-    /// A buffer for results is too short. These functions pass buffers that are long enough, so it does not occur.
-    Length,
-    /// A string is not well-formed: hex or a glob.
-    Syntax,
-    /// A merge has an even number of terms.
-    Terms,
-    /// A merge resolves to no term. [`resolve`] returns `None` instead.
-    Conflict,
-    /// A node is not below the number of nodes.
-    Node,
-    /// The graph has a cycle.
-    Cycle,
-    /// A string is no repository path: it is not UTF-8, or has an empty component.
-    Path,
-    /// A string is no expression of a file set.
-    Expression,
-    /// A status that this crate does not know: its declarations are not those of the library.
-    Unknown(i64),
-}
-
-impl fmt::Display for Error {
-    fn fmt(&self, f: &mut fmt::Formatter<'_>) -> fmt::Result {
-        f.write_str(match self {
-            Error::Memory => "out of memory",
-            Error::Ends => "ends descend or exceed the list",
-            Error::Length => "buffer too short",
-            Error::Syntax => "malformed string",
-            Error::Terms => "even number of terms",
-            Error::Conflict => "unresolved conflict",
-            Error::Node => "node out of range",
-            Error::Cycle => "cycle in the graph",
-            Error::Path => "invalid path",
-            Error::Expression => "malformed expression",
-            Error::Unknown(status) => return write!(f, "unknown status {status}"),
-        })
-    }
-}
-
-impl std::error::Error for Error {}
-
-fn number(status: i64) -> Result<usize, Error> {
-    usize::try_from(status).map_err(|_| match status {
-        -1 => Error::Memory,
-        -2 => Error::Ends,
-        -3 => Error::Length,
-        -4 => Error::Syntax,
-        -5 => Error::Terms,
-        -6 => Error::Conflict,
-        -7 => Error::Node,
-        -8 => Error::Cycle,
-        -9 => Error::Path,
-        -10 => Error::Expression,
-        other => Error::Unknown(other),
-    })
-}
-
-/// A list of byte strings as their concatenation, and the index at which each ends.
-#[derive(Clone, Debug, Default, PartialEq, Eq)]
-pub struct Joined {
-    bytes: Vec<u8>,
-    ends: Vec<usize>,
-}
-
-impl Joined {
-    /// Joins byte strings.
-    pub fn new<T: AsRef<[u8]>>(items: &[T]) -> Joined {
-        let mut joined = Joined::default();
-        items.iter().for_each(|item| joined.push(item.as_ref()));
-        joined
-    }
-
-    /// Takes bytes that are joined already. The calls return [`Error::Ends`] if the ends descend or exceed the bytes.
-    pub fn from_parts(bytes: Vec<u8>, ends: Vec<usize>) -> Joined {
-        Joined { bytes, ends }
-    }
-
-    /// Appends a byte string.
-    pub fn push(&mut self, item: &[u8]) {
-        self.bytes.extend_from_slice(item);
-        self.ends.push(self.bytes.len());
-    }
-
-    /// The number of byte strings.
-    pub fn len(&self) -> usize {
-        self.ends.len()
-    }
-
-    /// Whether there is no byte string.
-    pub fn is_empty(&self) -> bool {
-        self.ends.is_empty()
-    }
-}
-
-/// A graph as joined lists of targets: node `n` has the `n`-th list.
-#[derive(Clone, Debug, Default, PartialEq, Eq)]
-pub struct Graph {
-    targets: Vec<usize>,
-    ends: Vec<usize>,
-}
-
-impl Graph {
-    /// The graph in which node `n` has the targets `lists[n]`.
-    pub fn new<T: AsRef<[usize]>>(lists: &[T]) -> Graph {
-        let mut graph = Graph::default();
-        for list in lists {
-            graph.targets.extend_from_slice(list.as_ref());
-            graph.ends.push(graph.targets.len());
-        }
-        graph
-    }
-}
-
 fn digest(call: impl FnOnce(*mut u8, usize) -> i64) -> Result<[u8; DIGEST_LENGTH], Error> {
     let mut digest = [0; DIGEST_LENGTH];
-    number(call(digest.as_mut_ptr(), digest.len()))?;
+    number(call(digest.as_mut_ptr(), digest.len()), only)?;
     Ok(digest)
 }
 
 // Calls with a buffer of `len` items, and returns those that were written.
-fn filled<T: Clone + Default>(len: usize, call: impl FnOnce(*mut T, usize) -> i64) -> Result<Vec<T>, Error> {
+fn filled<T: Clone + Default>(
+    len: usize, explain: impl FnOnce(ErrorKind) -> Error, call: impl FnOnce(*mut T, usize) -> i64,
+) -> Result<Vec<T>, Error> {
     let mut buffer = vec![T::default(); len];
-    let written = number(call(buffer.as_mut_ptr(), buffer.len()))?;
+    let written = number(call(buffer.as_mut_ptr(), buffer.len()), explain)?;
     buffer.truncate(written);
     Ok(buffer)
 }
 
 /// The BLAKE2b-512 digest of bytes.
+///
+/// ```
+/// assert_eq!(jj_core_verified::hash(b"abc")?[..2], [0xba, 0x80]);
+/// # Ok::<(), jj_core_verified::Error>(())
+/// ```
 pub fn hash(bytes: &[u8]) -> Result<[u8; DIGEST_LENGTH], Error> {
     digest(|out, len| unsafe { ffi::jj_hash(bytes.as_ptr(), bytes.len(), out, len) })
 }
 
-/// The digest of the content of a byte string: its length as 8 bytes, little-endian, and then the bytes.
+/// The digest of the content of a byte string: of its length as 8 bytes, little-endian, and then the bytes.
+///
+/// ```
+/// use jj_core_verified::{content_hash, hash};
+/// assert_eq!(content_hash(b"a")?, hash(b"\x01\0\0\0\0\0\0\0a")?);
+/// # Ok::<(), jj_core_verified::Error>(())
+/// ```
 pub fn content_hash(bytes: &[u8]) -> Result<[u8; DIGEST_LENGTH], Error> {
     digest(|out, len| unsafe { ffi::jj_content_hash(bytes.as_ptr(), bytes.len(), out, len) })
 }
 
-/// The digest of the content of a list of byte strings: their number as 8 bytes, and then the content of each.
+/// The digest of the content of a list of byte strings: of their number as 8 bytes, and then the content of each.
+///
+/// ```
+/// use jj_core_verified::{content_hash_list, hash, Joined};
+/// assert_eq!(content_hash_list(&Joined::default())?, hash(&[0; 8])?);
+/// # Ok::<(), jj_core_verified::Error>(())
+/// ```
 pub fn content_hash_list(list: &Joined) -> Result<[u8; DIGEST_LENGTH], Error> {
     digest(|out, len| unsafe {
         ffi::jj_content_hash_list(list.bytes.as_ptr(), list.bytes.len(), list.ends.as_ptr(), list.ends.len(), out, len)
@@ -168,14 +77,15 @@ pub fn content_hash_list(list: &Joined) -> Result<[u8; DIGEST_LENGTH], Error> {
 }
 
 /// A BLAKE2b-512 hasher of a message that comes in pieces. It allocates nothing; a clone of it is a second hasher of the same message.
+/// It is a `Write`, which never fails.
 ///
 /// ```
 /// use jj_core_verified::{hash, Hasher};
 /// let mut hasher = Hasher::new();
 /// hasher.update(b"ab");
-/// hasher.update(b"c");
+/// std::io::copy(&mut &b"c"[..], &mut hasher)?;
 /// assert_eq!(hasher.finish(), hash(b"abc")?);
-/// # Ok::<(), jj_core_verified::Error>(())
+/// # Ok::<(), Box<dyn std::error::Error>>(())
 /// ```
 #[derive(Clone, Debug)]
 pub struct Hasher {
@@ -184,6 +94,12 @@ pub struct Hasher {
 
 impl Hasher {
     /// A hasher of the empty message.
+    ///
+    /// ```
+    /// use jj_core_verified::{hash, Hasher};
+    /// assert_eq!(Hasher::new().finish(), hash(b"")?);
+    /// # Ok::<(), jj_core_verified::Error>(())
+    /// ```
     pub fn new() -> Hasher {
         let mut state = ffi::JjHasher { chaining: [0; 8], buffer: [0; 128], total_low: 0, total_high: 0, is_full: 0 };
         unsafe { ffi::jj_hasher_start(&mut state) };
@@ -191,36 +107,101 @@ impl Hasher {
     }
 
     /// Appends bytes to the message.
+    ///
+    /// ```
+    /// use jj_core_verified::{hash, Hasher};
+    /// let mut hasher = Hasher::new();
+    /// hasher.update(b"a");
+    /// assert_eq!(hasher.finish(), hash(b"a")?);
+    /// # Ok::<(), jj_core_verified::Error>(())
+    /// ```
     pub fn update(&mut self, bytes: &[u8]) {
         unsafe { ffi::jj_hasher_update(&mut self.state, bytes.as_ptr(), bytes.len()) }
     }
 
     /// The digest of the message: of the bytes of all updates, in order. More can be appended afterwards.
+    ///
+    /// ```
+    /// use jj_core_verified::Hasher;
+    /// let hasher = Hasher::new();
+    /// assert_eq!(hasher.finish(), hasher.clone().finish());
+    /// ```
     pub fn finish(&self) -> [u8; DIGEST_LENGTH] {
         digest(|out, len| unsafe { ffi::jj_hasher_finish(&self.state, out, len) }).expect("the buffer has the length of a digest")
     }
 }
 
+impl Default for Hasher {
+    fn default() -> Hasher {
+        Hasher::new()
+    }
+}
+
+impl std::io::Write for Hasher {
+    fn write(&mut self, bytes: &[u8]) -> std::io::Result<usize> {
+        self.update(bytes);
+        Ok(bytes.len())
+    }
+
+    fn flush(&mut self) -> std::io::Result<()> {
+        Ok(())
+    }
+}
+
+// Why digits are none: the first character that is no digit, else their odd number.
+fn digit_error(text: &str, reverse: bool) -> impl FnOnce(ErrorKind) -> Error + '_ {
+    let is_digit = move |byte: u8| if reverse { matches!(byte | 32, b'k'..=b'z') } else { byte.is_ascii_hexdigit() };
+    move |kind| Error::new(kind, text.bytes().position(|byte| !is_digit(byte)), Some(text.len()))
+}
+
 /// Encodes bytes as lower-case hex, or with `reverse` as reverse hex (`z` is 0, `k` is 15).
+///
+/// ```
+/// use jj_core_verified::hex_encode;
+/// assert_eq!((hex_encode(b"\x01\xef", false)?, hex_encode(b"\x01\xef", true)?), ("01ef".into(), "zylk".into()));
+/// # Ok::<(), jj_core_verified::Error>(())
+/// ```
 pub fn hex_encode(bytes: &[u8], reverse: bool) -> Result<String, Error> {
-    let digits = filled(2 * bytes.len(), |out, len| unsafe { ffi::jj_hex_encode(bytes.as_ptr(), bytes.len(), reverse, out, len) })?;
-    String::from_utf8(digits).map_err(|_| Error::Syntax)
+    let digits = filled(2 * bytes.len(), only, |out, len| unsafe { ffi::jj_hex_encode(bytes.as_ptr(), bytes.len(), reverse, out, len) })?;
+    String::from_utf8(digits).map_err(|_| only(ErrorKind::Syntax))
 }
 
 /// Decodes an even number of hex digits of either case.
+///
+/// ```
+/// use jj_core_verified::hex_decode;
+/// assert_eq!(hex_decode("01EF", false)?, [1, 0xef]);
+/// assert_eq!(hex_decode("01g2", false).unwrap_err().to_string(), "the character at index 2 is no digit");
+/// # Ok::<(), jj_core_verified::Error>(())
+/// ```
 pub fn hex_decode(text: &str, reverse: bool) -> Result<Vec<u8>, Error> {
-    filled(text.len() / 2, |out, len| unsafe { ffi::jj_hex_decode(text.as_ptr(), text.len(), reverse, out, len) })
+    filled(text.len() / 2, digit_error(text, reverse), |out, len| unsafe {
+        ffi::jj_hex_decode(text.as_ptr(), text.len(), reverse, out, len)
+    })
 }
 
 /// Whether the hex of an id begins with these digits, of either case and any number.
+///
+/// ```
+/// use jj_core_verified::hex_prefix_matches;
+/// assert!(hex_prefix_matches("01e", false, &[1, 0xef])?);
+/// # Ok::<(), jj_core_verified::Error>(())
+/// ```
 pub fn hex_prefix_matches(prefix: &str, reverse: bool, id: &[u8]) -> Result<bool, Error> {
-    number(unsafe { ffi::jj_hex_prefix_matches(prefix.as_ptr(), prefix.len(), reverse, id.as_ptr(), id.len()) }).map(|n| n == 1)
+    let status = unsafe { ffi::jj_hex_prefix_matches(prefix.as_ptr(), prefix.len(), reverse, id.as_ptr(), id.len()) };
+    number(status, digit_error(prefix, reverse)).map(|n| n == 1)
 }
 
 /// Parses a glob once, and returns for each byte string whether the glob matches it. With `separator`, `?` and `*` do not match `/`; with
-/// `icase`, ASCII letters match in either case.
+/// `icase`, ASCII letters match in either case. [`Joined::select`] iterates over those that match.
+///
+/// ```
+/// use jj_core_verified::{glob_matches, Joined};
+/// assert_eq!(glob_matches("*.{rs,py}", true, false, &Joined::new(&["a.rs", "b/c.py"]))?, [true, false]);
+/// # Ok::<(), jj_core_verified::Error>(())
+/// ```
 pub fn glob_matches(glob: &str, separator: bool, icase: bool, paths: &Joined) -> Result<Vec<bool>, Error> {
-    filled(paths.len(), |out, len| unsafe {
+    filled(paths.len(), |kind| Error::new(kind, None, Some(glob.len())), |out, len| unsafe {
         ffi::jj_glob_matches(
             glob.as_ptr(), glob.len(), separator, icase, paths.bytes.as_ptr(), paths.bytes.len(), paths.ends.as_ptr(), paths.ends.len(),
             out, len,
@@ -228,16 +209,37 @@ pub fn glob_matches(glob: &str, separator: bool, icase: bool, paths: &Joined) ->
     })
 }
 
-/// Parses the expression of a file set once, such as `src ~ tests`, and returns for each path whether it is in the set.
+/// Parses the expression of a file set once, such as `src ~ tests`, and returns for each path whether it is in the set. Operands are paths
+/// (with all below them), globs, `file:PATH`, `glob:GLOB`, `all()` and `none()`; operators are `|`, `&`, `~` and parentheses.
+/// [`Joined::select`] iterates over the paths in the set.
+///
+/// ```
+/// use jj_core_verified::{fileset_matches, Joined};
+/// let paths = Joined::new(&["src/a.rs", "src/a.md", "b.rs"]);
+/// assert_eq!(fileset_matches("src & ~**/*.md", &paths)?, [true, false, false]);
+/// let error = fileset_matches("src", &Joined::new(&["a", "a//b"])).unwrap_err();
+/// assert_eq!(error.index(), Some(1));
+/// # Ok::<(), jj_core_verified::Error>(())
+/// ```
 pub fn fileset_matches(expression: &str, paths: &Joined) -> Result<Vec<bool>, Error> {
-    filled(paths.len(), |out, len| unsafe {
+    let explain = |kind| match kind {
+        ErrorKind::Path => paths.path_error().unwrap_or(only(kind)),
+        _ => Error::new(kind, None, Some(expression.len())),
+    };
+    filled(paths.len(), explain, |out, len| unsafe {
         ffi::jj_fileset_matches(
             expression.as_ptr(), expression.len(), paths.bytes.as_ptr(), paths.bytes.len(), paths.ends.as_ptr(), paths.ends.len(), out, len,
         )
     })
 }
 
-/// A walk of a tree of files.
+/// A walk of a tree of files: the result of [`walk`].
+///
+/// ```
+/// use jj_core_verified::{walk, Joined, Walk};
+/// assert_eq!(walk(&Joined::default(), true, &Joined::new(&["a"]))?, Walk { found: vec![false], entered: 0 });
+/// # Ok::<(), jj_core_verified::Error>(())
+/// ```
 #[derive(Clone, Debug, PartialEq, Eq)]
 pub struct Walk {
     /// Whether the walk finds each file.
@@ -248,36 +250,65 @@ pub struct Walk {
 
 /// Walks the tree of the files at these paths. The walk finds those that are listed or, with `prefixes`, at or below a listed path, but never
 /// the root. It enters directories that are ancestors of listed paths and, with `prefixes`, those at or below one.
+///
+/// ```
+/// use jj_core_verified::{walk, Joined};
+/// let files = Joined::new(&["src/a/b.rs", "src/c.rs", "docs/d.md"]);
+/// let found = walk(&Joined::new(&["src/a"]), true, &files)?;
+/// assert_eq!((found.found, found.entered), (vec![true, false, false], 3));
+/// # Ok::<(), jj_core_verified::Error>(())
+/// ```
 pub fn walk(listed: &Joined, prefixes: bool, files: &Joined) -> Result<Walk, Error> {
     let mut found = vec![false; files.len()];
-    let entered = number(unsafe {
+    let status = unsafe {
         ffi::jj_walk(
             listed.bytes.as_ptr(), listed.bytes.len(), listed.ends.as_ptr(), listed.ends.len(), prefixes, files.bytes.as_ptr(),
             files.bytes.len(), files.ends.as_ptr(), files.ends.len(), found.as_mut_ptr(), found.len(),
         )
-    })?;
+    };
+    let entered = number(status, |kind| listed.path_error().or_else(|| files.path_error()).unwrap_or(only(kind)))?;
     Ok(Walk { found, entered })
 }
 
-/// The indices of the terms that remain of a merge, in the order of the simplified merge.
+/// The indices of the terms that remain of a merge once each added term is cancelled with an equal removed one, in the order of the
+/// simplified merge.
+///
+/// ```
+/// use jj_core_verified::{simplify, Joined};
+/// assert_eq!(simplify(&Joined::new(&["a", "b", "b", "c", "a"]))?, [0, 3, 4]);
+/// # Ok::<(), jj_core_verified::Error>(())
+/// ```
 pub fn simplify(terms: &Joined) -> Result<Vec<usize>, Error> {
-    filled(terms.len(), |out, len| unsafe {
+    filled(terms.len(), |kind| terms.terms_error(kind), |out, len| unsafe {
         ffi::jj_merge_simplify(terms.bytes.as_ptr(), terms.bytes.len(), terms.ends.as_ptr(), terms.ends.len(), out, len)
     })
 }
 
 /// The index of a term that a merge resolves to, or `None` for a conflict. With `accept`, sides that made the same change resolve to it.
+///
+/// ```
+/// use jj_core_verified::{resolve, Joined};
+/// let same = Joined::new(&["a", "b", "a"]);
+/// assert_eq!((resolve(&same, false)?, resolve(&same, true)?), (None, Some(0)));
+/// # Ok::<(), jj_core_verified::Error>(())
+/// ```
 pub fn resolve(terms: &Joined, accept: bool) -> Result<Option<usize>, Error> {
     let status = unsafe {
         ffi::jj_merge_resolve(terms.bytes.as_ptr(), terms.bytes.len(), terms.ends.as_ptr(), terms.ends.len(), accept)
     };
-    match number(status) {
-        Err(Error::Conflict) => Ok(None),
+    match number(status, |kind| terms.terms_error(kind)) {
+        Err(error) if error.kind() == ErrorKind::Conflict => Ok(None),
         index => index.map(Some),
     }
 }
 
 /// The terms of a merge of merges, in the order of the flattened merge, in which removed merges are inverted.
+///
+/// ```
+/// use jj_core_verified::flatten;
+/// assert_eq!(flatten(&[vec![1], vec![2, 3, 4], vec![5]])?, [&1, &4, &3, &2, &5]);
+/// # Ok::<(), jj_core_verified::Error>(())
+/// ```
 pub fn flatten<T>(merges: &[Vec<T>]) -> Result<Vec<&T>, Error> {
     let terms: Vec<&T> = merges.iter().flatten().collect();
     let mut end = 0;
@@ -286,13 +317,24 @@ pub fn flatten<T>(merges: &[Vec<T>]) -> Result<Vec<&T>, Error> {
         end += merge.len();
         ends.push(end);
     }
-    let order = filled(terms.len(), |out, len| unsafe { ffi::jj_merge_flatten(ends.as_ptr(), ends.len(), out, len) })?;
+    let explain = |kind| match merges.iter().position(|merge| merge.len() % 2 == 0) {
+        Some(index) => Error::new(kind, Some(index), Some(merges[index].len())),
+        None => Error::new(kind, None, Some(merges.len())),
+    };
+    let order = filled(terms.len(), explain, |out, len| unsafe { ffi::jj_merge_flatten(ends.as_ptr(), ends.len(), out, len) })?;
     Ok(order.iter().map(|index| terms[*index]).collect())
 }
 
 /// The nodes that are reachable from `nodes`, each before its targets; the next node is always the greatest possible one.
+///
+/// ```
+/// use jj_core_verified::{order, Graph};
+/// assert_eq!(order(&Graph::new(&[vec![], vec![0], vec![0], vec![1, 2]]), &[3])?, [3, 2, 1, 0]);
+/// assert_eq!(order(&Graph::new(&[vec![1], vec![0]]), &[0]).unwrap_err().to_string(), "node 0 is on a cycle");
+/// # Ok::<(), jj_core_verified::Error>(())
+/// ```
 pub fn order(graph: &Graph, nodes: &[usize]) -> Result<Vec<usize>, Error> {
-    filled(graph.ends.len(), |out, len| unsafe {
+    filled(graph.len(), |kind| graph.error(kind, &[nodes]), |out, len| unsafe {
         ffi::jj_graph_order(
             graph.targets.as_ptr(), graph.targets.len(), graph.ends.as_ptr(), graph.ends.len(), nodes.as_ptr(), nodes.len(), out, len,
         )
@@ -300,17 +342,29 @@ pub fn order(graph: &Graph, nodes: &[usize]) -> Result<Vec<usize>, Error> {
 }
 
 /// Those of the nodes that are reachable from no other of them, in ascending order.
+///
+/// ```
+/// use jj_core_verified::{heads, Graph};
+/// assert_eq!(heads(&Graph::new(&[vec![], vec![0], vec![0]]), &[0, 1, 2])?, [1, 2]);
+/// # Ok::<(), jj_core_verified::Error>(())
+/// ```
 pub fn heads(graph: &Graph, nodes: &[usize]) -> Result<Vec<usize>, Error> {
-    filled(graph.ends.len(), |out, len| unsafe {
+    filled(graph.len(), |kind| graph.error(kind, &[nodes]), |out, len| unsafe {
         ffi::jj_graph_heads(
             graph.targets.as_ptr(), graph.targets.len(), graph.ends.as_ptr(), graph.ends.len(), nodes.as_ptr(), nodes.len(), out, len,
         )
     })
 }
 
-/// The nodes that both sets reach and that no other such node reaches, in ascending order.
+/// The nodes that both sets reach and that no other such node reaches, in ascending order: of commits, the merge bases.
+///
+/// ```
+/// use jj_core_verified::{closest_common, Graph};
+/// assert_eq!(closest_common(&Graph::new(&[vec![], vec![0], vec![0]]), &[1], &[2])?, [0]);
+/// # Ok::<(), jj_core_verified::Error>(())
+/// ```
 pub fn closest_common(graph: &Graph, set1: &[usize], set2: &[usize]) -> Result<Vec<usize>, Error> {
-    filled(graph.ends.len(), |out, len| unsafe {
+    filled(graph.len(), |kind| graph.error(kind, &[set1, set2]), |out, len| unsafe {
         ffi::jj_graph_common(
             graph.targets.as_ptr(), graph.targets.len(), graph.ends.as_ptr(), graph.ends.len(), set1.as_ptr(), set1.len(), set2.as_ptr(),
             set2.len(), out, len,

@@ -1,7 +1,7 @@
 //! The rows of the conformance table of the libraries that apply to this crate.
 use jj_core_verified::{
     closest_common, content_hash, fileset_matches, flatten, glob_matches, hash, heads, hex_decode, hex_encode, hex_prefix_matches, order, resolve,
-    simplify, walk, Error, Graph, Hasher, Joined, Walk,
+    simplify, walk, Error, ErrorKind, Graph, Hasher, Joined, Walk,
 };
 
 const TABLE: &str = include_str!("../../../crates/conformance/stdin");
@@ -33,6 +33,11 @@ fn unescape(field: &str) -> Vec<u8> {
 }
 
 type Fields = Vec<Vec<u8>>;
+
+// A result with only the kind of an error, which the table has.
+fn kind<T>(result: Result<T, Error>) -> Result<T, ErrorKind> {
+    result.map_err(|error| error.kind())
+}
 
 // The arguments and the expected values of each row of a request. Calls `check` for each, and compares their number with the least one.
 fn each_row(request: &str, least: usize, mut check: impl FnMut(&Fields, &Fields)) {
@@ -109,15 +114,15 @@ fn hex() {
     for (request, reverse) in [("hex-decode", false), ("hex-decode-rev", true)] {
         each_row(request, 4, |given, expected| {
             let Ok(digits) = std::str::from_utf8(&given[0]) else { return };
-            let wanted = if expected[0] == b"some" { Ok(expected[1].clone()) } else { Err(Error::Syntax) };
-            assert_eq!(hex_decode(digits, reverse), wanted, "{digits}");
+            let wanted = if expected[0] == b"some" { Ok(expected[1].clone()) } else { Err(ErrorKind::Syntax) };
+            assert_eq!(kind(hex_decode(digits, reverse)), wanted, "{digits}");
         });
     }
     for (request, reverse) in [("prefix", false), ("prefix-rev", true)] {
         each_row(request, 8, |given, expected| {
             let found = hex_prefix_matches(text(&given[0]), reverse, &given[1]);
-            let wanted = if expected[0] == b"some" { Ok(is_true(expected.last().unwrap())) } else { Err(Error::Syntax) };
-            assert_eq!(found, wanted, "{given:?}");
+            let wanted = if expected[0] == b"some" { Ok(is_true(expected.last().unwrap())) } else { Err(ErrorKind::Syntax) };
+            assert_eq!(kind(found), wanted, "{given:?}");
         });
     }
 }
@@ -130,8 +135,8 @@ fn globs() {
     });
     each_row("glob-parse", 15, |given, expected| {
         let found = glob_matches(text(&given[2]), given[0] == b"1", given[1] == b"1", &Joined::default());
-        let wanted = if expected[0] == b"ok" { Ok(vec![]) } else { Err(Error::Syntax) };
-        assert_eq!(found, wanted, "{given:?}");
+        let wanted = if expected[0] == b"ok" { Ok(vec![]) } else { Err(ErrorKind::Syntax) };
+        assert_eq!(kind(found), wanted, "{given:?}");
     });
 }
 
@@ -147,9 +152,10 @@ fn filesets() {
         assert_eq!(fileset_matches(expression, &paths), Ok(expected.to_vec()), "{expression}");
     }
     for expression in ["", "src &", "(src", "src)", "some()", "a//b", "glob:'[a'"] {
-        assert_eq!(fileset_matches(expression, &paths), Err(Error::Expression), "{expression}");
+        assert_eq!(kind(fileset_matches(expression, &paths)), Err(ErrorKind::Expression), "{expression}");
     }
-    assert_eq!(fileset_matches("src", &Joined::new(&["a//b"])), Err(Error::Path));
+    let error = fileset_matches("src", &Joined::new(&["a", "a//b"])).unwrap_err();
+    assert_eq!((error.kind(), error.index(), error.length()), (ErrorKind::Path, Some(1), Some(2)));
 }
 
 #[test]
@@ -173,8 +179,8 @@ fn walks() {
     });
     assert!(checked >= 7, "{checked}");
     let (valid, invalid) = (Joined::new(&["a"]), Joined::new(&["a//b"]));
-    assert_eq!(walk(&valid, true, &invalid), Err(Error::Path));
-    assert_eq!(walk(&invalid, true, &valid), Err(Error::Path));
+    assert_eq!(kind(walk(&valid, true, &invalid)), Err(ErrorKind::Path));
+    assert_eq!(kind(walk(&invalid, true, &valid)), Err(ErrorKind::Path));
 }
 
 #[test]
@@ -198,10 +204,10 @@ fn merges() {
 fn flattening() {
     each_row("merge-flatten", 5, |given, expected| {
         let merges: Vec<Fields> = given.split(|field| field == b"|").map(<[_]>::to_vec).collect();
-        let wanted = if expected[0].starts_with(b"precondition") { Err(Error::Terms) } else { Ok(expected.iter().collect()) };
-        assert_eq!(flatten(&merges), wanted, "{given:?}");
+        let wanted = if expected[0].starts_with(b"precondition") { Err(ErrorKind::Terms) } else { Ok(expected.iter().collect()) };
+        assert_eq!(kind(flatten(&merges)), wanted, "{given:?}");
     });
-    assert_eq!(flatten(&[vec!['a'], vec!['b', 'c'], vec!['d']]), Err(Error::Terms));
+    assert_eq!(flatten(&[vec!['a'], vec!['b', 'c'], vec!['d']]).unwrap_err().to_string(), "the merge at index 1 has 2 terms, an even number");
 }
 
 // A graph of letters, `B:A` for an edge from B to A, and whether each of its items succeeds.
@@ -230,7 +236,7 @@ fn graphs() {
         match found {
             Ok(nodes) => assert_eq!((&b"ok".to_vec(), &letters(&nodes)), (&expected[0], &expected[1])),
             // The calls look for a cycle anywhere, and the rows for one that is reached.
-            Err(error) => assert_eq!(error, Error::Cycle),
+            Err(error) => assert_eq!(error.kind(), ErrorKind::Cycle),
         }
     };
     each_row("greatest", 15, |given, expected| {
@@ -251,21 +257,41 @@ fn graphs() {
     assert!(checked[0] >= 8 && checked[1] >= 5 && checked[2] >= 15, "{checked:?}");
 }
 
+// The kind, the index and the length of the error of a call.
+fn place<T: std::fmt::Debug>(result: Result<T, Error>) -> (ErrorKind, Option<usize>, Option<usize>) {
+    let error = result.unwrap_err();
+    assert!(!error.to_string().is_empty());
+    (error.kind(), error.index(), error.length())
+}
+
 #[test]
 fn errors() {
-    let descending = Joined::from_parts(b"ab".to_vec(), vec![2, 1, 2]);
-    let beyond = Joined::from_parts(b"ab".to_vec(), vec![1, 2, usize::MAX]);
-    for list in [&descending, &beyond] {
-        assert_eq!(simplify(list), Err(Error::Ends));
-        assert_eq!(resolve(list, true), Err(Error::Ends));
-        assert_eq!(glob_matches("*", true, false, list), Err(Error::Ends));
-        assert_eq!(walk(list, true, &Joined::default()), Err(Error::Ends));
-        assert_eq!(walk(&Joined::default(), true, list), Err(Error::Ends));
-    }
-    assert_eq!(simplify(&Joined::new(&["a", "b"])), Err(Error::Terms));
-    assert_eq!(simplify(&Joined::default()), Err(Error::Terms));
+    assert_eq!(place(Joined::from_parts(b"ab".to_vec(), vec![2, 1, 2])), (ErrorKind::Ends, Some(1), Some(2)));
+    assert_eq!(place(Joined::from_parts(b"ab".to_vec(), vec![1, 2, usize::MAX])), (ErrorKind::Ends, Some(2), Some(2)));
+    assert_eq!(place(hex_decode("0g", false)), (ErrorKind::Syntax, Some(1), Some(2)));
+    assert_eq!(place(hex_decode("012", false)), (ErrorKind::Syntax, None, Some(3)));
+    assert_eq!(place(hex_prefix_matches("zy0", true, b"")), (ErrorKind::Syntax, Some(2), Some(3)));
+    assert_eq!(place(glob_matches("[a", true, false, &Joined::default())), (ErrorKind::Syntax, None, Some(2)));
+    assert_eq!(place(simplify(&Joined::new(&["a", "b"]))), (ErrorKind::Terms, None, Some(2)));
+    assert_eq!(place(simplify(&Joined::default())), (ErrorKind::Terms, None, Some(0)));
+    assert_eq!(place(resolve(&Joined::default(), true)), (ErrorKind::Terms, None, Some(0)));
+    assert_eq!(place(flatten(&[vec![1], vec![2]])), (ErrorKind::Terms, None, Some(2)));
     let chain = Graph::new(&[vec![], vec![0], vec![1, 7]]);
-    assert_eq!(heads(&chain, &[0]), Err(Error::Node));
-    assert_eq!(order(&Graph::new(&[vec![0]]), &[]), Err(Error::Cycle));
-    assert_eq!(order(&Graph::new(&[vec![]]), &[1]), Err(Error::Node));
+    assert_eq!(place(heads(&chain, &[0])), (ErrorKind::Node, Some(2), Some(3)));
+    assert_eq!(place(order(&Graph::new(&[vec![0]]), &[])), (ErrorKind::Cycle, Some(0), Some(1)));
+    assert_eq!(place(order(&Graph::new(&[vec![], vec![2, 0], vec![2]]), &[1])), (ErrorKind::Cycle, Some(2), Some(3)));
+    assert_eq!(place(order(&Graph::new(&[vec![]]), &[0, 1])), (ErrorKind::Node, Some(1), Some(1)));
+    assert_eq!(place(closest_common(&Graph::new(&[vec![]]), &[0], &[usize::MAX])), (ErrorKind::Node, Some(0), Some(1)));
+}
+
+#[test]
+fn lists() {
+    let paths = Joined::from_parts(b"abcd".to_vec(), vec![1, 1, 3]).unwrap();
+    assert!(paths.iter().eq([&b"a"[..], b"", b"bc"]) && paths.iter().len() == 3);
+    assert!(paths.select(&[true, false, true]).eq([&b"a"[..], b"bc"]));
+    let mut more = paths.clone();
+    more.extend(["e"]);
+    assert_eq!((more.get(3), more.get(4)), (Some(&b"e"[..]), None));
+    assert_eq!(paths.iter().collect::<Joined>(), Joined::new(&["a", "", "bc"]));
+    assert_eq!((0..3).map(|node| vec![0; node]).collect::<Graph>().targets(2), [0, 0]);
 }
