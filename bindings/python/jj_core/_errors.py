@@ -32,6 +32,8 @@ class JjMemoryError(JjError, MemoryError):
 
 def error(status: int, message: str) -> JjError:
     """The error of a negative status."""
+    if status not in STATUSES:
+        return JjError(status, "the package and the library do not belong together")
     if STATUSES.get(status) == "JJ_MEMORY":
         return JjMemoryError(status, "memory ran out, or a glob has 1,048,576 states or more")
     return JjValueError(status, message)
