@@ -12,7 +12,7 @@ from .sources import CRATES, FAULTS, TYPES, home_of, sources, toolchain_home
 STD = ["std", "core", "std_alloc", "std_collections", "std_io", "io"]
 LOGIC = {"lib", "denote", "base", "borrow", "mir", "prog", "store", "types", "abs", "contract", "ghost", "sound"}
 USE = re.compile(r"^[ \t]*((?:pub |ghost |unfoldable )*)use\s+([^\s{;]+?)(?:\.\{([^}]*)\}|\s+as\s+([^\s;]+))?\s*;?[ \t]*$", re.M)
-KEYWORD = r"(?:pub|abbrev|unfoldable|data|record|axiom|ruleset)\b"
+KEYWORD = r"(?:pub|abbrev|unfoldable|data|record(?!\s*\{)|axiom|ruleset)\b"
 NEW = re.compile(rf"(?:{KEYWORD}\s+)*(?!{KEYWORD})([^\s(){{}}:]+)(?=\s*[:({{]|\s+where)")
 # A comment that goes on where the one before it ended.
 LEANS = re.compile(r"(?:or|of|by|and|but|so|also|then|such)\b|(?:where|with) [^,]*$|.*\bas above\b", re.S)

@@ -76,7 +76,7 @@ def clause_anchor(item, clause):
 def gloss(cited, known):
     """The comments of the project's words in a clause, each once in an item; those that only go on from another comment are left out."""
     new = {it.key: it for it in cited if it.crate in CRATES and it.doc and "…" not in it.doc and not LEANS.match(it.doc) and it.key not in known}
-    known |= new.keys()
+    known.update(new)
     rows = "".join(f"<li><code>{html.escape(it.name)}</code> {inline(first_sentence(it.doc))}" for it in new.values())
     return f"<ul class=gloss>{rows}</ul>" if rows else ""
 
