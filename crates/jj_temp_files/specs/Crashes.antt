@@ -1,0 +1,35 @@
+-- What a crash at any moment of a call may leave at a path.
+-- Cited by contracts of public items: Changes, Unchanged, LeavesOldOr, AddsWritten, IsWholeOrAbsent.
+use Rattle.std.specs.Prelude.{◌≡◌, ◌⊎◌, ◌≤◌, ◌++◌, ⊤, ℕ, List, Option, Some, None, Result, Ok, Err, take}
+use Rattle.std.specs.declared.io.Error.{Error}
+
+-- what a crash since a moment might have left at a path
+abbrev pub LeftSince : Type 0 → Type 1
+LeftSince S = S → ℕ → List ℕ → Option (List ℕ) → Type 0
+
+-- Time goes on: a crash since a moment might have left at the path what it might have left before, or
+-- one of these.
+pub record Changes {S : Type 0} (moment : S → ℕ) (left_since : LeftSince S) (old new : S)
+    (path : List ℕ) (leaves : Option (List ℕ) → Type 0) : Type 0 where
+  pub later : moment old ≤ moment new
+  pub each : (since : ℕ) (left : Option (List ℕ)) → since ≤ moment old
+      → left_since new since path left → left_since old since path left ⊎ leaves left
+
+-- time goes on, and a crash leaves nothing else at the path
+abbrev pub Unchanged : {S : Type 0} → (S → ℕ) → LeftSince S → S → S → List ℕ → Type 0
+Unchanged moment left_since old new path = Changes moment left_since old new path (λ left. ⊥)
+
+-- a crash at any moment since leaves at the path what a crash before might have left, or these bytes
+abbrev pub LeavesOldOr : {S : Type 0} → (S → ℕ) → LeftSince S → (Option (List ℕ) → Type 0) → S → S
+    → List ℕ → List ℕ → Type 0
+LeavesOldOr moment left_since before old new path bytes = (left : Option (List ℕ))
+    → left_since new (moment old) path left → before left ⊎ (left ≡ Some bytes)
+
+-- a prefix of the piece was appended; after an error, nothing is said
+abbrev pub AddsWritten : List ℕ → List ℕ → Result ℕ Error → List ℕ → Type 0
+AddsWritten old piece (Ok count) new = new ≡ old ++ take count piece
+AddsWritten old piece (Err error) new = ⊤
+
+-- no file, or one with these bytes
+abbrev pub IsWholeOrAbsent : List ℕ → Option (List ℕ) → Type 0
+IsWholeOrAbsent bytes left = (left ≡ None) ⊎ (left ≡ Some bytes)

@@ -1,0 +1,5 @@
+pub mod Identities
+pub mod TempNames
+pub mod Persisting
+pub mod Checks
+pub mod Crashes
