@@ -30,15 +30,21 @@ def is_test_support(name):
     return name.endswith("_tests") or name == "conformance" or name.startswith("rows")
 
 
+def is_contracts(name):
+    """A crate of callers that restate contracts, for the mutations."""
+    return name.startswith("contracts_")
+
+
 def is_library(name):
-    """A library for users: neither tests nor a program."""
-    return not is_test_support(name) and not name.endswith("_cli")
+    """A library for users: neither tests, callers for mutations, nor a program."""
+    has_library = (ROOT / "crates" / name / "src/lib.rt").is_file()
+    return has_library and not is_test_support(name) and not is_contracts(name) and not name.endswith("_cli")
 
 
 def layers():
     """The crates by their height: a crate is one layer above the highest that it uses."""
     known = crates()
-    below = {name: [it for it in deps if it in known] for name, deps in known.items() if not is_test_support(name)}
+    below = {name: [it for it in deps if it in known] for name, deps in known.items() if not (is_test_support(name) or is_contracts(name))}
     height = {}
     while len(height) < len(below):
         height |= {name: 1 + max((height[it] for it in deps), default=0) for name, deps in below.items() if all(it in height for it in deps)}
