@@ -1,0 +1,10 @@
+pub mod Booleans
+pub mod LineLaws
+pub mod LoopLaws
+pub mod MarkerLaws
+pub mod MarkerSteps
+pub mod ParseLaws
+pub mod StateLaws
+pub mod TermLaws
+pub mod HunkLaws
+pub mod UnmarkedLaws

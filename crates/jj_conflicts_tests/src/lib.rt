@@ -1,0 +1,7 @@
+//! Tests and proved callers of jj_conflicts.
+#![tactic(auto)]
+
+#[cfg(test)]
+pub mod callers;
+#[cfg(test)]
+mod text_tests;
