@@ -113,7 +113,8 @@ abbrev pub is_null : List ℕ → Bool
 is_null [] = true
 is_null (b ∷ bs) = false
 
--- A line that starts a conflict makes the lines of an unfinished one resolved content. Markers outside
+-- A line that starts a conflict makes the lines of an unfinished one resolved content. Markers
+-- outside
 -- of conflicts are content.
 abbrev pub with_text_line : ℕ → ℕ → Hunks → List ℕ → Hunks
 with_text_line n sides s line =

@@ -1,4 +1,5 @@
-//! Conflicts of file contents, rendered with markers and parsed, in Jujutsu's snapshot style and Git's style.
+//! Conflicts of file contents, rendered with markers and parsed, in Jujutsu's snapshot style and in
+//! Git's style.
 
 mod parse;
 mod render;

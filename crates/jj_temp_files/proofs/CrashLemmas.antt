@@ -1,4 +1,4 @@
--- What a crash may leave after several calls.
+-- The outcomes of a crash after several calls.
 use Rattle.std.proofs.Common.{◌≡◌, ◌≢◌, ◌⊎◌, ◌≤◌, ◌++◌, ◌∙◌, ℕ, take, drop, List, Option, Some, None, Result, Ok, Err, OnOk, MatchResult, string_bytes, inl, inr, arith, append_assoc, take-append-drop, subst, sym, refl}
 use Rattle.std.specs.declared.io.Error.{Error}
 use Rattle.jj_files.specs.declared.file_util.errors.PathError.{PathError}
@@ -7,7 +7,7 @@ use Rattle.jj_temp_files.specs.Crashes.{Changes, Unchanged, LeftSince, LeavesOld
 use Rattle.jj_temp_files.specs.Persisting.{SyncRelation, RenameRelation, RemoveRelation, PersistsFile, ReturnsOrRemoves}
 use Rattle.jj_temp_files.specs.TempNames.{PassesOverTaken, none, more, IsNumberedPath, IsTaken, CreatesTempFile}
 
--- what a crash may leave after two steps is left by one of them
+-- an outcome of a crash after two steps is left by one of them
 pub changes_twice : {S : Type 0} (moment : S → ℕ) (left_since : LeftSince S) (a b c : S)
     (path : List ℕ) (P : Option (List ℕ) → Type 0) → Changes moment left_since a b path P
     → Changes moment left_since b c path P → Changes moment left_since a c path P
@@ -121,7 +121,7 @@ RemovesElsewhere {S} moment left_since may_remove = (old new : S) (path : List �
     (result : Result (Unit {0}) Error) → may_remove old path result new
     → (other : List ℕ) → other ≢ path → Unchanged moment left_since old new other
 
--- what is there is the whole file
+-- a file that is there is whole
 whole_of : (bytes : List ℕ) (left : Option (List ℕ)) → left ≢ None → IsWholeOrAbsent bytes left
     → left ≡ Some bytes
 whole_of bytes left there (inl absent) = absurd (there absent)
@@ -192,7 +192,7 @@ persisted moment left_since may_leave created_at written may_sync may_rename may
     (returned_or_removed moment left_since may_remove removes temp path apart outcome between new
     result returned))
 
--- what was written and the rest are all bytes, after one more piece
+-- the bytes written and the rest are all bytes, after one more piece
 pub adds_next : (old piece new rest all : List ℕ) (result : Result ℕ Error) (count : ℕ)
     → result ≡ Ok count → AddsWritten old piece result new → rest ≡ drop count piece
     → old ++ piece ≡ all → new ++ rest ≡ all

@@ -1,14 +1,14 @@
--- What a crash at any moment of a call may leave at a path.
--- Cited by contracts of public items: Changes, Unchanged, LeavesOldOr, AddsWritten, IsWholeOrAbsent.
+-- The outcomes at a path of a crash at any moment of a call.
+-- Cited by contracts of public items: Changes, Unchanged, LeavesOldOr, AddsWritten,
+-- IsWholeOrAbsent.
 use Rattle.std.specs.Prelude.{◌≡◌, ◌⊎◌, ◌≤◌, ◌++◌, ⊤, ℕ, List, Option, Some, None, Result, Ok, Err, take}
 use Rattle.std.specs.declared.io.Error.{Error}
 
--- what a crash since a moment might have left at a path
+-- an outcome at a path of a crash since a moment
 abbrev pub LeftSince : Type 0 → Type 1
 LeftSince S = S → ℕ → List ℕ → Option (List ℕ) → Type 0
 
--- Time goes on: a crash since a moment might have left at the path what it might have left before, or
--- one of these.
+-- Time goes on: an outcome of a crash since a moment was one before, or is one of these.
 pub record Changes {S : Type 0} (moment : S → ℕ) (left_since : LeftSince S) (old new : S)
     (path : List ℕ) (leaves : Option (List ℕ) → Type 0) : Type 0 where
   pub later : moment old ≤ moment new
@@ -19,7 +19,7 @@ pub record Changes {S : Type 0} (moment : S → ℕ) (left_since : LeftSince S) 
 abbrev pub Unchanged : {S : Type 0} → (S → ℕ) → LeftSince S → S → S → List ℕ → Type 0
 Unchanged moment left_since old new path = Changes moment left_since old new path (λ left. ⊥)
 
--- a crash at any moment since leaves at the path what a crash before might have left, or these bytes
+-- a crash at any moment since leaves at the path an outcome of one before, or these bytes
 abbrev pub LeavesOldOr : {S : Type 0} → (S → ℕ) → LeftSince S → (Option (List ℕ) → Type 0) → S → S
     → List ℕ → List ℕ → Type 0
 LeavesOldOr moment left_since before old new path bytes = (left : Option (List ℕ))

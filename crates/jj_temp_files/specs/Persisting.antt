@@ -25,8 +25,8 @@ RemovesFile may_remove path old result new = (removed : Result (Unit {0}) Error)
     × may_remove old path removed new × AddsPath path removed result
 
 -- the temporary path was removed, and the file is returned open; or the error of that with its path
-abbrev pub UnlinksFile : {S F : Type 0} → RemoveRelation S → NamedTempFile F → S → Result F PathError
-    → S → Type 0
+abbrev pub UnlinksFile : {S F : Type 0} → RemoveRelation S → NamedTempFile F → S
+    → Result F PathError → S → Type 0
 UnlinksFile may_remove temp old result new = (removed : Result (Unit {0}) Error)
     × may_remove old (string_bytes temp.path) removed new
     × MatchResult removed (λ done. result ≡ Ok temp.file)

@@ -6,7 +6,7 @@ ghost use Rattle.jj_temp_files.specs.declared.access.FileStatus.{FileStatus};
 
 use std::io;
 
-/// What a file system says of a file.
+/// The status of a file.
 #[derive(Clone, Copy, Debug, PartialEq, Eq)]
 pub struct FileStatus {
     /// The device that contains the file.

@@ -8,8 +8,8 @@ use jj_files::file_util::{IoResultExt, PathError};
 use std::alloc::Global;
 use std::io;
 
-/// Identifies a file while it exists: two are equal exactly if device and number are, so also for two
-/// hard links to one file. The number of a file that was removed may be used again.
+/// Identifies a file while it exists: two are equal exactly if device and number are, so also for
+/// two hard links to one file. The number of a file that was removed may be used again.
 #[derive(Clone, Copy, Debug, PartialEq, Eq, Hash)]
 pub struct FileIdentity {
     device: u64,

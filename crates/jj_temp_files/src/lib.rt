@@ -1,5 +1,5 @@
-//! Files that are written whole or not at all, links, identities of files, and checks of what a file
-//! system supports.
+//! Files that are written whole or not at all, links, identities of files, and checks of a file
+//! system.
 #![tactic(auto)]
 
 mod access;

@@ -1,4 +1,4 @@
-//! Symbolic links, and checks of what a file system supports.
+//! Symbolic links, and checks of a file system.
 ghost use Rattle.std.specs.Prelude.{◌≡◌, true, Result, Ok};
 ghost use Rattle.jj_temp_files.specs.Checks.{LinksAt, KeepsExecutableBit, TestsExecutableBit};
 
@@ -46,9 +46,9 @@ pub fn check_symlink_support() -> io::Result<bool>
     Ok(true)
 }
 
-/// Returns whether files in a directory keep their executable bit: flips that of a new file and reads
-/// it back. Returns false where permission is denied, or where the bit did not change. The new file is
-/// removed before it is tested, so that nothing stays behind. An error contains the path of the new
+/// Returns whether files in a directory keep their executable bit: flips that of a new file and
+/// reads it back. Returns false where permission is denied, or where the bit did not change. The
+/// new file is removed before it is tested, so that nothing stays behind. An error contains the path of the new
 /// file, or `dir`.
 pub fn check_executable_bit_support<A: FileAccess>(
     alloc: Global,

@@ -10,8 +10,9 @@ use std::{fs, io};
 // Only the owner reads and writes a temporary file.
 const PRIVATE_MODE: u32 = 0o600;
 
-/// Passes each call of [`FileAccess`] on to the file system of a process, or to another implementation
-/// of `Files`. Its relations allow everything: no contract says what a real file system does.
+/// Passes each call of [`FileAccess`] on to the file system of a process, or to another
+/// implementation of `Files`. Its relations allow everything: no contract speaks of a real file
+/// system.
 #[derive(Drop)]
 pub struct SystemFiles<F> {
     files: F,

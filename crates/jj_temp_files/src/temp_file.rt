@@ -63,8 +63,8 @@ pub struct NamedTempFile<F> {
 }
 
 impl<F: Drop> NamedTempFile<F> {
-    /// Creates a file in a directory, open for reading and writing. Passes over names that are taken,
-    /// at most 65,536. An error contains the path of the file that could not be created.
+    /// Creates a file in a directory, open for reading and writing. Passes over names that are
+    /// taken, at most 65,536. An error contains the path of the file that could not be created.
     pub fn new_in<A: FileAccess<File = F>>(
         alloc: Global,
         files: &mut A,
@@ -121,7 +121,8 @@ impl<F: Drop> NamedTempFile<F> {
         files: &mut A,
         new_path: &str,
     ) -> Result<F, PathError>
-        ensures { RenamesFile A.may_rename A.may_remove self new_path.now files.old result files.new }
+        ensures { RenamesFile A.may_rename A.may_remove self new_path.now
+            files.old result files.new }
     {
         let NamedTempFile { file, path } = self;
         let renamed = files.rename(path.as_str(), new_path);
@@ -147,8 +148,8 @@ impl<F: Drop> NamedTempFile<F> {
             .context(alloc, path.as_str())
     }
 
-    /// Removes the temporary path, and returns the file open: it is gone once it is closed. An error
-    /// contains the temporary path.
+    /// Removes the temporary path, and returns the file open: it is gone once it is closed. An
+    /// error contains the temporary path.
     pub fn unlink<A: FileAccess<File = F>>(
         self,
         alloc: Global,
@@ -185,8 +186,8 @@ fn at_path<F: Drop>(path: String, created: io::Result<F>) -> Result<NamedTempFil
 }
 
 /// Writes the data of a temporary file to its device, renames it over `new_path`, and returns it
-/// open: after a crash, `new_path` has its old content or all of the new one. If one of the two calls
-/// fails, removes the temporary file and returns the error with `new_path`.
+/// open: after a crash, `new_path` has its old content or all of the new one. If one of the two
+/// calls fails, removes the temporary file and returns the error with `new_path`.
 pub fn persist_temp_file<A: FileAccess>(
     alloc: Global,
     files: &mut A,
@@ -218,8 +219,8 @@ fn sync_and_rename<A: FileAccess>(
     files.rename(from, to)
 }
 
-/// `persist_temp_file` for a path that is determined by the content. A file that is there already has
-/// the same content, and is replaced.
+/// `persist_temp_file` for a path that is determined by the content. A file that is there already
+/// has this content, and is replaced.
 pub fn persist_content_addressed_temp_file<A: FileAccess>(
     alloc: Global,
     files: &mut A,

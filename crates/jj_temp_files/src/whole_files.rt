@@ -1,5 +1,5 @@
-//! Files that a crash leaves as they were or whole, over a file system of which is known what a
-//! crash may leave.
+//! Files that a crash leaves as they were or whole, over a file system whose outcomes of a crash
+//! are known.
 ghost use Rattle.std.specs.Prelude.{◌≡◌, ◌≢◌, ◌⊎◌, ◌≤◌, ◌++◌, ℕ, List, [], Option, Some, None, Result, Ok, Err, OnOk, IfOk, drop, length, string_bytes};
 ghost use Rattle.std.specs.declared.io.Error.{Error};
 ghost use Rattle.jj_temp_files.specs.TempNames.{IsNumberedPath};
@@ -11,18 +11,18 @@ use std::alloc::Global;
 use std::io;
 use std::io::ErrorKind;
 
-/// What a crash may leave in a file system, as laws on the relations of its calls. `Some` is a file
-/// with these bytes, `None` is no file. Renaming is one step, and a file whose data was synced is
+/// The outcomes of a crash, as laws on the relations of the calls. `Some` is a file with these
+/// bytes, `None` is no file. Renaming is one step, and a file whose data was synced is
 /// whole, as POSIX has it of `rename` and `fdatasync`.
 pub trait CrashSafe: FileAccess {
-    /// What a crash at this moment may leave at a path.
+    /// The outcomes at a path of a crash at this moment.
     ghost may_leave: { Self → List ℕ → Option (List ℕ) → Type 0 };
 
     /// The moment, as a number that does not decrease.
     ghost moment: { Self → ℕ };
 
-    /// What a crash at some moment from that one on might have left at a path, during a call or
-    /// between two.
+    /// The outcomes at a path of a crash at some moment from that one on, during a call or between
+    /// two.
     ghost left_since: { Self → ℕ → List ℕ → Option (List ℕ) → Type 0 };
 
     /// The path at which an open file was created.
@@ -130,9 +130,9 @@ fn persist_whole<A: CrashSafe>(
     Ok(())
 }
 
-/// Writes a file whole: to a temporary file in `dir`, whose data is synced and which is renamed over
-/// `path`. After a crash at any moment, `path` has what it had before, or all of `bytes`. `dir` has to
-/// be on the file system of `path`, and `path` must not be the name of a temporary file.
+/// Writes a file whole: to a temporary file in `dir`, whose data is synced and which is renamed
+/// over `path`. After a crash at any moment, `path` has its content from before, or all of `bytes`.
+/// `dir` has to be on the file system of `path`, and `path` must not be the name of a temporary file.
 pub fn write_file<A: CrashSafe>(
     alloc: Global,
     files: &mut A,

@@ -15,7 +15,8 @@ enum Target {
     Whole,
 }
 
-// After `calls_left` calls, the next one fails. A file that is renamed before it was synced is torn.
+// After `calls_left` calls, the next one fails. A file that is renamed before it was synced is
+// torn.
 #[derive(Drop)]
 struct Disk {
     has_temp: bool,

@@ -114,7 +114,8 @@ impl HunkParser {
     }
 }
 
-/// Parses content with conflict markers into hunks: resolved content, and conflicts of `num_sides` sides.
+/// Parses content with conflict markers into hunks: resolved content, and conflicts of `num_sides`
+/// sides.
 ///
 /// A marker is a line that begins with `expected_marker_len` or more of its character and then has
 /// white space. A conflict goes from the last `<<<<<<<` line before a `>>>>>>>` line to that line.
