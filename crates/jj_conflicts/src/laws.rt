@@ -7,8 +7,8 @@ ghost use Rattle.jj_conflicts.specs.Markers.{chosen_marker_len};
 ghost use Rattle.jj_conflicts.specs.declared.conflicts.ConflictMarkerStyle.{ConflictMarkerStyle};
 
 /// Content rendered from hunks is parsed to these hunks, with adjacent resolved hunks joined, in
-/// both styles and with any labels: if no line of them is a marker, all conflicts have the same number
-/// of sides, and resolved content before another hunk ends in LF.
+/// both styles and with any labels: if no line of them is a marker, all conflicts have the same
+/// number of sides, and resolved content before another hunk ends in LF.
 pub fn rendered_hunks_are_parsed()
     ensures { (style : ConflictMarkerStyle) (marker_len sides : ℕ) (labels : List (List ℕ))
         (hunks : List (List (List ℕ))) → 0 < marker_len → IsParsable marker_len sides hunks

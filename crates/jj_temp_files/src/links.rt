@@ -48,8 +48,8 @@ pub fn check_symlink_support() -> io::Result<bool>
 
 /// Returns whether files in a directory keep their executable bit: flips that of a new file and
 /// reads it back. Returns false where permission is denied, or where the bit did not change. The
-/// new file is removed before it is tested, so that nothing stays behind. An error contains the path of the new
-/// file, or `dir`.
+/// new file is removed before it is tested, so that nothing stays behind. An error contains the
+/// path of the new file, or `dir`.
 pub fn check_executable_bit_support<A: FileAccess>(
     alloc: Global,
     files: &mut A,

@@ -132,7 +132,8 @@ fn persist_whole<A: CrashSafe>(
 
 /// Writes a file whole: to a temporary file in `dir`, whose data is synced and which is renamed
 /// over `path`. After a crash at any moment, `path` has its content from before, or all of `bytes`.
-/// `dir` has to be on the file system of `path`, and `path` must not be the name of a temporary file.
+/// `dir` has to be on the file system of `path`, and `path` must not be the name of a temporary
+/// file.
 pub fn write_file<A: CrashSafe>(
     alloc: Global,
     files: &mut A,
