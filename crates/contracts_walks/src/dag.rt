@@ -129,7 +129,7 @@ where
     ensures order { IfOk result (λ v. InEachModel
         (graph_of_items ID.eq F.Fn N.FnMut NI.IntoIterator NI.IntoIter.Iterator id_fn neighbors_fn)
         (list_of_items II.IntoIterator II.IntoIter.Iterator start)
-        (λ g starts. IsGreatestOrder T.cmp g starts (map g.node v.items))) }
+        (λ g starts. IsGreatestOrder T.cmp g starts v.items)) }
     ensures error { IfFails result (λ e. IsInputError
         (graph_of_items ID.eq F.Fn N.FnMut NI.IntoIterator NI.IntoIter.Iterator id_fn neighbors_fn)
         (list_of_items II.IntoIterator II.IntoIter.Iterator start) e
