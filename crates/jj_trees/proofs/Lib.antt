@@ -11,5 +11,6 @@ mod MemoryObjectLemmas
 mod SameRecords
 pub mod StoredTries
 pub mod TrieValues
+pub mod NodeWrites
 pub mod ChosenValues
 pub mod MergedPaths

@@ -161,7 +161,7 @@ module _ (trees : ById Entries) where
   AreAlike (Some node) None = ⊥
   AreAlike (Some node) (Some w) = IsNodeValue node w
 
-  alike : (b : Nodes) (es : Entries) (name : Name) → AreStored trees b es → AreAlike (child b name) (lookup (bytes_eq name) es)
+  pub alike : (b : Nodes) (es : Entries) (name : Name) → AreStored trees b es → AreAlike (child b name) (lookup (bytes_eq name) es)
   alike none [] name h = tt
   alike none (e ∷ es) name h = absurd h
   alike (branch n value below after) [] name h = absurd h
@@ -174,12 +174,12 @@ module _ (trees : ById Entries) where
       by_test hyp true is = rw (is, same ∙ is) h.1
       by_test hyp false is = rw (is, same ∙ is) hyp
 
-  stored_at-none : (path : Path) → stored_at trees None path ≡ None
+  pub stored_at-none : (path : Path) → stored_at trees None path ≡ None
   stored_at-none [] = refl
   stored_at-none (name ∷ rest) = stored_at-none rest
 
   -- the value at a name of a directory is that of its entry
-  stored_at-tree : (id : List ℕ) (tree : Entries) (name : Name) (rest : Path) → trees id ≡ Some tree
+  pub stored_at-tree : (id : List ℕ) (tree : Entries) (name : Name) (rest : Path) → trees id ≡ Some tree
       → stored_at trees (Some (Tree id)) (name ∷ rest) ≡ stored_at trees (lookup (bytes_eq name) tree) rest
   stored_at-tree id tree name rest is = ap (λ (o : Option Entries). stored_at trees (option_and_then (λ entries. lookup (bytes_eq name) entries) o) rest) is
 

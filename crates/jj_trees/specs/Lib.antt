@@ -7,4 +7,5 @@ pub mod MemoryErrors
 pub mod MemoryObjects
 pub mod Signing
 pub mod WrittenTrees
+pub mod TreeWrites
 pub mod PathTries

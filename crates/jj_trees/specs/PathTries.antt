@@ -1,7 +1,7 @@
 -- The trie of the values to write, and the trees that are written for its nodes.
 -- Machinery of private functions and fields.
 use Rattle.std.specs.Prelude.{◌≡◌, ◌⊎◌, ℕ, Bool, true, false, List, [], ◌∷◌, ◌++◌, length}
-use Rattle.std.specs.Prelude.{Option, Some, None, IsSome, Contains}
+use Rattle.std.specs.Prelude.{Option, Some, None, IsSome, All, Any, Contains, Result, IfOk}
 use Rattle.std.specs.Global.{Global}
 use Rattle.std.specs.declared.string.String.{String}
 use Rattle.jj_files.specs.declared.file_util.errors.SourceKind.TheVariants.{Data}
@@ -15,6 +15,7 @@ use Rattle.jj_backend.specs.declared.backend.tree_value.TreeValue.TheVariants.{T
 use Rattle.jj_backend.specs.declared.backend.errors.BackendError.{BackendError}
 use Rattle.jj_backend.specs.declared.backend.errors.BackendError.TheVariants.{Memory, Unsupported}
 use Rattle.jj_trees.specs.WrittenTrees.{PathValues, IsTreeWriteError}
+use Rattle.jj_trees.specs.TreeWrites.{TreeWrite, IsAtPath, IsRun}
 
 -- a trie of values: nodes without a value are directories
 abbrev pub Node : Type 0
@@ -76,3 +77,17 @@ module _ {B : Type 0} (objects : B → Objects)
       ⊎ ((message : String Global) × (e ≡ Unsupported message)
       × ((path : Path) × (length path ≡ levels) × (value_at node path ≡ Some None)))
       ⊎ IsTreeWriteError objects may_fail_to_write old e
+
+module _ {B : Type 0} (may_write : B → Path → Object → Result (List ℕ) BackendError → B → Type 0)
+  where
+    -- `WritesDirectories`, of the directories of a trie whose root is at the path `dir`
+    pub record WritesNodes (trees : ById Entries) (dir : Path) (node : Node) (old new : B)
+        (result : Result (List ℕ) BackendError) : Type 0 where
+      pub writes : List TreeWrite
+      pub run : IsRun may_write old writes new
+      pub directories : All (λ write. (rest : Path) × (write.0 ≡ dir ++ rest)
+          × (value_at node rest ≡ Some None)) writes
+      pub at_paths : IfOk result (λ root. All (λ write. (rest : Path) × (write.0 ≡ dir ++ rest)
+          × IsAtPath trees root rest write) writes)
+      pub all : IfOk result (λ root. (rest : Path) → value_at node rest ≡ Some None
+          → Any (λ write. write.0 ≡ dir ++ rest) writes)

@@ -152,6 +152,8 @@ impl Backend for MemoryBackend {
 
     ghost may_fail_to_write = { MayFailToWrite };
 
+    ghost may_write = { λ _ _ _ _ _. ⊤ };
+
     ghost may_relate = { λ _ _ r. IsErrAnd r (λ e. (e ≡ Memory) ⊎ (is_unsupported e ≡ true)) };
 
     ghost may_list_copies = { λ _ _ _ _ r. IsErrAnd r

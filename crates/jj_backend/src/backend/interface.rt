@@ -70,6 +70,10 @@ pub trait Backend {
     /// Relates an object to the errors that writing it may return.
     ghost may_fail_to_write: { Self → Object → BackendError → Type 0 };
 
+    /// Relates the path and the object of a write to the results that the write may return, and to
+    /// the backend after it: of a file, a symbolic link or a tree.
+    ghost may_write: { Self → Path → Object → Result (List ℕ) BackendError → Self → Type 0 };
+
     /// Relates a copy id to the results that `get_related_copies` may return for it.
     ghost may_relate: { Self → List ℕ → Result (List RelatedCopy) BackendError → Type 0 };
 
@@ -123,7 +127,9 @@ pub trait Backend {
             (objects self.new) id contents.now) }
         ensures unchanged { OnErr result (objects self.new ≡ objects self.old) }
         ensures fixed { fixed self.new ≡ fixed self.old }
-        ensures error { IfErr result (may_fail_to_write self.old (file_object contents.now)) };
+        ensures error { IfErr result (may_fail_to_write self.old (file_object contents.now)) }
+        ensures at_path { may_write self.old (path_of path.entry) (file_object contents.now) result
+            self.new };
 
     /// Reads the target of a symbolic link. `ObjectNotFound` means that no link has the id.
     fn read_symlink(
@@ -146,7 +152,9 @@ pub trait Backend {
             (objects self.new) id target.now) }
         ensures unchanged { OnErr result (objects self.new ≡ objects self.old) }
         ensures fixed { fixed self.new ≡ fixed self.old }
-        ensures error { IfErr result (may_fail_to_write self.old (symlink_object target.now)) };
+        ensures error { IfErr result (may_fail_to_write self.old (symlink_object target.now)) }
+        ensures at_path { may_write self.old (path_of path.entry) (symlink_object target.now) result
+            self.new };
 
     /// Reads a copy history. `ObjectNotFound` means that no copy history has the id.
     fn read_copy(&self, alloc: Global, id: &CopyId) -> BackendResult<CopyHistory>
@@ -182,7 +190,9 @@ pub trait Backend {
             (objects self.new) id contents.now) }
         ensures unchanged { OnErr result (objects self.new ≡ objects self.old) }
         ensures fixed { fixed self.new ≡ fixed self.old }
-        ensures error { IfErr result (may_fail_to_write self.old (tree_object contents.now)) };
+        ensures error { IfErr result (may_fail_to_write self.old (tree_object contents.now)) }
+        ensures at_path { may_write self.old (path_of path.entry) (tree_object contents.now) result
+            self.new };
 
     /// Reads a commit. `ObjectNotFound` means that no commit has the id.
     fn read_commit(&self, alloc: Global, id: &CommitId) -> BackendResult<Commit>

@@ -10,6 +10,8 @@ ghost use Rattle.jj_backend.specs.declared.backend.tree_value.TreeValue.{TreeVal
 ghost use Rattle.jj_trees.specs.WrittenTrees.{AddsTrees, IsPrefixFree, IsTreeOf, PathValues};
 ghost use Rattle.jj_trees.specs.WrittenTrees.{IsWriteBackError, chosen_values, values_to_write};
 ghost use Rattle.jj_trees.specs.PathTries.{IsFull, IsNodeError, IsStored, IsTrieOf, is_value};
+ghost use Rattle.jj_trees.specs.PathTries.{WritesNodes};
+ghost use Rattle.jj_trees.specs.TreeWrites.{WritesDirectories};
 
 use super::{MAX_LEVELS, TreeMerge, too_deep_error};
 use jj_backend::backend::{Backend, BackendError, BackendResult, Tree, TreeId, TreeValue};
@@ -163,6 +165,8 @@ fn write_directory<B: Backend>(
     ensures objects { AddsTrees (B.objects backend.old) (B.objects backend.new) }
     ensures error { IfErr result
         (IsNodeError B.objects B.may_fail_to_write backend.old node.now levels) }
+    ensures writes { WritesNodes B.may_write (B.objects backend.new).trees (path_of dir.entry)
+        node.now backend.old backend.new result }
 {
     if levels == 0 {
         return Err(too_deep_error(alloc));
@@ -202,6 +206,9 @@ pub fn write_back<B: Backend>(
     ensures objects { AddsTrees (B.objects backend.old) (B.objects backend.new) }
     ensures error { IfErr result (IsWriteBackError B.objects B.may_fail_to_write backend.old
         (values_to_write merge.now.resolved.items merge.now.conflicts.items chosen.now)) }
+    ensures writes { WritesDirectories B.may_write (B.objects backend.new).trees (values_to_write
+        merge.now.resolved.items merge.now.conflicts.items chosen.now) backend.old backend.new
+        result }
 {
     let trie = values_trie(alloc, merge, chosen)?;
     write_directory(alloc, backend, RepoPath::root(), &trie, MAX_LEVELS)
