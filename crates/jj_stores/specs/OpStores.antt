@@ -1,17 +1,25 @@
 -- The calls of stores of views and operations, on finite maps from ids: reads, writes, prefixes of
 -- ids, and garbage collection.
--- Cited by contracts of public items: AddsEqual, IsReachable, IsReachableView, IsResolution,
--- ReadsEqual, RemovesOthers, is_not_found.
-use Rattle.std.specs.Prelude.{◌≡◌, ◌≢◌, ◌⊎◌, ℕ, Bool, true, false, List, Option, None, Some, IsSome, IsSomeAnd, Result, MatchResult, nat_eq}
+-- Cited by contracts of public items: AddsEqual, FixedValues, IsKeptOperation, IsKeptView,
+-- IsReachable, IsReachableView, IsResolution, LacksOthers, ReadsEqual, RemovesOthers, SetsTime,
+-- is_newer, is_not_found.
+use Rattle.std.specs.Prelude.{◌≡◌, ◌≢◌, int_lt, ◌⊎◌, ℕ, Bool, true, false, List, Option, None, Some, IsSome, IsSomeAnd, Result, MatchResult, nat_eq}
 use Rattle.std.specs.Bool.{MatchBool}
 use Rattle.std.specs.List.{Contains, starts_with}
+use Rattle.std.specs.Option.{option_map_or}
 use Rattle.jj_content.specs.Hex.{hex}
 use Rattle.jj_ids.specs.declared.object_id.prefix_resolution.PrefixResolution.{PrefixResolution}
 use Rattle.jj_ids.specs.declared.object_id.prefix_resolution.PrefixResolution.TheVariants.{NoMatch, SingleMatch, AmbiguousMatch}
 use Rattle.jj_backend.specs.Objects.{ById, IsFree, put}
+use Rattle.jj_backend.specs.declared.backend.timestamp.MillisSinceEpoch.{MillisSinceEpoch}
 use Rattle.jj_stores.specs.declared.op_store.errors.OpStoreError.{OpStoreError}
 use Rattle.jj_stores.specs.declared.op_store.errors.OpStoreError.TheVariants.{ObjectNotFound}
 use Rattle.jj_stores.specs.declared.op_store.operation.Operation.{Operation}
+
+-- the values of a store that no call changes
+pub record FixedValues : Type 0 where
+  pub name : List ℕ
+  pub root_operation_id : List ℕ
 
 -- no object has the id
 abbrev pub is_not_found : OpStoreError → Bool
@@ -32,6 +40,10 @@ module _ {V : Type 0} where
   abbrev pub AddsEqual : (V → V → Bool) → ById V → ById V → List ℕ → V → Type 0
   AddsEqual eq old new id value = (stored : V) × (eq stored value ≡ true)
       × IsFree old id stored × (new ≡ put old id stored)
+
+  -- nothing is left under other ids
+  abbrev pub LacksOthers : (List ℕ → Type 0) → ById V → Type 0
+  LacksOthers IsKept new = (id : List ℕ) → ¬ IsKept id → new id ≡ None
 
   -- only values under other ids are removed
   abbrev pub RemovesOthers : (List ℕ → Type 0) → ById V → ById V → Type 0
@@ -66,3 +78,27 @@ abbrev pub IsReachableView : ById Operation → List (List ℕ) → List ℕ →
 IsReachableView operations heads view_id = (id : List ℕ) × (operation : Operation)
     × IsReachable operations heads id × (operations id ≡ Some operation)
     × (operation.view_id ≡ view_id)
+
+-- ---- times of writes, and what garbage collection keeps
+
+abbrev pub Times : Type 0
+Times = ById MillisSinceEpoch
+
+-- the id has a new time, and each other id its old one
+abbrev pub SetsTime : Times → Times → List ℕ → Type 0
+SetsTime old new id = (time : MillisSinceEpoch) × (new ≡ put old id time)
+
+-- the value with this id was written after the time
+abbrev pub is_newer : Times → MillisSinceEpoch → List ℕ → Bool
+is_newer times time id = option_map_or (λ written. int_lt time.0 written.0) (times id) false
+
+-- the operation is a head, an ancestor of one, or newer than the time
+abbrev pub IsKeptOperation : ById Operation → List (List ℕ) → Times → MillisSinceEpoch → List ℕ
+    → Type 0
+IsKeptOperation operations heads times time id =
+    IsReachable operations heads id ⊎ (is_newer times time id ≡ true)
+
+-- the view is that of a head or of an ancestor of one, or newer than the time
+abbrev pub IsKeptView : ById Operation → List (List ℕ) → Times → MillisSinceEpoch → List ℕ → Type 0
+IsKeptView operations heads times time id =
+    IsReachableView operations heads id ⊎ (is_newer times time id ≡ true)

@@ -314,8 +314,7 @@ impl Signer {
     ghost use Rattle.std.specs.NonZero.{non_zero_usize_get};
     ghost use Rattle.jj_stores.specs.Signer.{cache_entries, capacity_of, default_capacity};
 
-    /// Creates a signer that caches the verifications of up to `capacity` commits. The cache is
-    /// allocated as it fills.
+    /// Creates a signer that caches the verifications of up to `capacity` commits.
     pub fn with_capacity(
         alloc: Global,
         main: Option<Box<dyn SigningBackend>>,

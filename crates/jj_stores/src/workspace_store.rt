@@ -49,8 +49,12 @@ pub trait WorkspaceStore {
     /// The path of each workspace, `None` for an unknown name.
     ghost paths: { Self → List ℕ → Option (List ℕ) };
 
+    /// The name of the type of the store, which no call changes.
+    ghost kind_name: { Self → List ℕ };
+
     /// Returns the name of the type of the store.
-    fn name(&self) -> &str;
+    fn name(&self) -> &str
+        ensures { result.now ≡ kind_name self.now };
 
     /// Sets the path of a workspace.
     fn add(
@@ -62,6 +66,7 @@ pub trait WorkspaceStore {
         ensures added { OnOk result (HaveSamePaths
             (with_path (name_bytes workspace_name.entry) path.now (paths self.old))
             (paths self.new)) }
+        ensures name { kind_name self.new ≡ kind_name self.old }
         ensures error { OnErr result (HaveSamePaths (paths self.old) (paths self.new)) };
 
     /// Removes workspaces; unknown names are ignored.
@@ -73,6 +78,7 @@ pub trait WorkspaceStore {
         ensures forgotten { OnOk result (HaveSamePaths
             (without_names (map name_bytes workspace_names.now) (paths self.old))
             (paths self.new)) }
+        ensures name { kind_name self.new ≡ kind_name self.old }
         ensures error { OnErr result (HaveSamePaths (paths self.old) (paths self.new)) };
 
     /// Moves the path of one name to another, whose own path is overwritten.
@@ -85,6 +91,7 @@ pub trait WorkspaceStore {
         ensures renamed { OnOk result (HaveSamePaths
             (with_renamed (name_bytes old_name.entry) (name_bytes new_name.entry) (paths self.old))
             (paths self.new)) }
+        ensures name { kind_name self.new ≡ kind_name self.old }
         ensures error { OnErr result (HaveSamePaths (paths self.old) (paths self.new)) };
 
     /// Returns the path of a workspace, or `None` for an unknown name.
