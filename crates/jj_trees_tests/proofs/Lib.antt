@@ -2,3 +2,4 @@ mod ConflictTerms
 mod WrittenOutcomes
 mod MemoryFailures
 mod FirstCommits
+mod RecordedRuns

@@ -12,10 +12,10 @@ mod levels_tests;
 #[cfg(test)]
 mod one_byte_tests;
 #[cfg(test)]
-mod read_paths;
-#[cfg(test)]
 mod root_tests;
 #[cfg(test)]
 pub mod three_sides;
 #[cfg(test)]
 mod three_sides_tests;
+#[cfg(test)]
+pub mod tree_paths;

@@ -1,5 +1,15 @@
-//! Tests of the paths at which a merge reads trees, by a backend that fails at any other path.
+//! The paths at which a merge reads and writes trees: a backend that reads at no other path and
+//! records the writes.
+ghost use Rattle.std.specs.Prelude.{◌≡◌, ◌++◌, ℕ, List, length, Some, All, Any, IfOk};
+ghost use Rattle.jj_backend.specs.Trees.{Entries};
+ghost use Rattle.jj_backend.specs.declared.backend.tree_value.TreeValue.TheVariants.{Tree as SubTree};
+ghost use Rattle.jj_paths.specs.Paths.{Path};
+ghost use Rattle.jj_trees.specs.MemoryObjects.{objects_of};
+ghost use Rattle.jj_trees.specs.TreeWrites.{IsDirectory};
+ghost use Rattle.jj_trees.specs.WrittenTrees.{stored_at, values_to_write};
+
 use crate::building::{ascending_tree, component, path, plain_file, sides_of};
+use crate::three_sides::side_values;
 use jj_backend::backend::{
     Backend, BackendError, BackendResult, ChangeId, Commit, CommitId, CopyHistory, CopyId,
     CopyRecord, FileId, RelatedCopy, SigningFn, SymlinkId, Tree, TreeId, TreeValue,
@@ -9,18 +19,19 @@ use jj_merges::conflict_labels::ConflictLabels;
 use jj_merges::merge::{Merge, SameChange};
 use jj_paths::repo_path::{RepoPath, RepoPathBuf};
 use jj_trees::memory_backend::MemoryBackend;
-use jj_trees::tree_merge::{TreeMerge, merge_trees};
+use jj_trees::tree_merge::{TreeMerge, merge_trees, write_back};
 use std::alloc::Global;
 use std::cell::Cell;
 use std::process::Abort;
 
-// Reads each tree only at the path at which it is stored, and counts the reads of trees. All other
-// reads and writes fail.
+/// Reads each tree only at the path at which it is stored, counts the reads of trees, and records
+/// the path and the tree of each write of a tree. All other reads and writes fail.
 #[derive(Drop)]
-struct PathBackend {
+pub struct PathBackend {
     inner: MemoryBackend,
     paths: Vec<(TreeId, RepoPathBuf)>,
     reads: Cell<u32>,
+    written: Vec<(RepoPathBuf, Tree)>,
 }
 
 impl PathBackend {
@@ -35,9 +46,10 @@ impl PathBackend {
 }
 
 impl Backend for PathBackend {
-    ghost use Rattle.std.specs.Prelude.{◌≡◌, ⊤, codes, IsErrAnd};
+    ghost use Rattle.std.specs.Prelude.{◌≡◌, ⊤, codes, IfOk, IsErrAnd};
     ghost use Rattle.jj_backend.specs.declared.backend.errors.BackendError.TheVariants.{Memory};
-    ghost use Rattle.jj_trees.specs.MemoryObjects.{fixed_of, objects_of};
+    ghost use Rattle.jj_trees.specs.MemoryObjects.{fixed_of, objects_of, MayFailToWrite};
+    ghost use Rattle.jj_trees_tests.specs.Recorded.{Records};
 
     ghost objects = { λ backend. objects_of backend.inner };
 
@@ -47,7 +59,10 @@ impl Backend for PathBackend {
 
     ghost may_read_tree = { λ _ path id r. ⊤ };
 
-    ghost may_fail_to_write = { λ _ _ e. e ≡ Memory };
+    ghost may_fail_to_write = { λ backend object e. MayFailToWrite backend.inner object e };
+
+    ghost may_write = { λ backend path object r after. IfOk r (λ _.
+        Records backend.written.items path object after.written.items) };
 
     ghost may_relate = { λ _ _ r. IsErrAnd r (λ e. e ≡ Memory) };
 
@@ -143,11 +158,13 @@ impl Backend for PathBackend {
 
     fn write_tree(
         &mut self,
-        _alloc: Global,
-        _path: RepoPath<'_>,
-        _contents: &Tree,
+        alloc: Global,
+        path: RepoPath<'_>,
+        contents: &Tree,
     ) -> BackendResult<TreeId> {
-        Err(BackendError::Memory)
+        self.written
+            .push((path.to_owned(alloc)?, contents.clone()?))?;
+        self.inner.write_tree(alloc, path, contents)
     }
 
     fn read_commit(&self, _alloc: Global, _id: &CommitId) -> BackendResult<Commit> {
@@ -224,7 +241,29 @@ fn new_backend(alloc: Global) -> BackendResult<PathBackend> {
         inner: MemoryBackend::new(alloc)?,
         paths: Vec::new(alloc),
         reads: Cell::new(0),
+        written: Vec::new(alloc),
     })
+}
+
+/// Writes a merge back: the trees whose writes were recorded are those of the directories, each at
+/// its path.
+pub fn recorded_write_back(
+    alloc: Global,
+    backend: &mut PathBackend,
+    merge: &TreeMerge,
+    chosen: &[Option<TreeValue>],
+) -> BackendResult<TreeId>
+    requires { length chosen.now ≡ length merge.now.conflicts.items }
+    ensures { IfOk result (λ root. (recorded : List (Path × Entries))
+        × (backend.new.written.items ≡ backend.old.written.items ++ recorded)
+        × All (λ write. (id : List ℕ)
+        × (stored_at (objects_of backend.new.inner).trees (Some (SubTree root)) write.0
+        ≡ Some (SubTree id))
+        × ((objects_of backend.new.inner).trees id ≡ Some write.1)) recorded
+        × ((path : Path) → IsDirectory (values_to_write merge.now.resolved.items
+        merge.now.conflicts.items chosen.now) path → Any (λ write. write.0 ≡ path) recorded)) }
+{
+    write_back(alloc, backend, merge, chosen)
 }
 
 // Each of the three merged directories is read once for each of the three terms.
@@ -234,7 +273,28 @@ fn reads_at_paths(alloc: Global) -> BackendResult<bool> {
     Ok(is_merged && backend.reads.get() == 9)
 }
 
+// Each directory is written after its subdirectories.
+fn writes_at_paths(alloc: Global) -> BackendResult<bool> {
+    let mut backend = new_backend(alloc)?;
+    let merge = merge_nested(alloc, &mut backend)?;
+    let chosen = side_values(alloc, &merge, 0)?;
+    recorded_write_back(alloc, &mut backend, &merge, &chosen)?;
+    match backend.written.as_slice() {
+        [first, second, root] => Ok(
+            first.0.as_path().as_internal_file_string() == "d/e"
+                && second.0.as_path().as_internal_file_string() == "d"
+                && root.0.as_path().is_root(),
+        ),
+        _ => Ok(false),
+    }
+}
+
 #[test]
 fn trees_are_read_at_their_paths(rt: HostRuntime) {
     assert!(rt; holds(&rt, reads_at_paths));
+}
+
+#[test]
+fn trees_are_written_at_their_paths(rt: HostRuntime) {
+    assert!(rt; holds(&rt, writes_at_paths));
 }
