@@ -1,5 +1,5 @@
-//! Globs of so many states that a match needs each size of state sets. All other cases are rows of
-//! the crate `conformance`.
+//! Globs of so many states that a match needs each size of state sets, and globs at the greatest
+//! number of states. All other cases are rows of the crate `conformance`.
 use jj_content_tests::retry::{Passed, passes};
 use jj_globs::glob::{Glob, GlobError};
 use std::alloc::{AllocError, Global};
@@ -65,4 +65,34 @@ fn check_counts<R: Abort>(rt: &R, alloc: Global) -> Passed {
 #[test]
 fn groups_of_many_words(rt: HostRuntime) -> Result<(), Fail> {
     passes(&rt, check_counts)
+}
+
+// Returns a group of so many wildcards, which has three states for each but the first, and one for
+// that.
+fn wildcards(alloc: Global, count: u32) -> Result<String, AllocError> {
+    let mut text = String::from_str(alloc, "{?")?;
+    for _ in 1..count {
+        text.push_str(",?")?;
+    }
+    text.push_str("}")?;
+    Ok(text)
+}
+
+// Checks that 1,048,573 states are a glob, and 1,048,576 are not.
+fn check_greatest<R: Abort>(rt: &R, alloc: Global) -> Passed {
+    let glob = parse(rt, alloc, wildcards(alloc, 349_525)?.as_str())?;
+    check_each(rt, &glob, &["a"], true);
+    check_each(rt, &glob, &["", "/", "ab"], false);
+    let larger = wildcards(alloc, 349_526)?;
+    let refused = matches!(
+        Glob::parse(alloc, larger.as_str(), true, false),
+        Err(GlobError::Memory)
+    );
+    assert!(rt; refused, "a glob of 1,048,576 states");
+    Ok(())
+}
+
+#[test]
+fn greatest_number_of_states(rt: HostRuntime) -> Result<(), Fail> {
+    passes(&rt, check_greatest)
 }
