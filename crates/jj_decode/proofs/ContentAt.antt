@@ -162,3 +162,7 @@ module _ {X : Type 0} {v : X → Type 0} {c : X → List ℕ} {p : List ℕ → 
       error_image (AreBoth p q) (both_content (λ b. b) (λ b. b)) bytes start e
       (error_by_second (contents_lawful r) q (λ b. b) bytes start mid (c x) e le
       (contents_at bytes start mid x s) n)
+
+pub is_memory : (e : DecodeError) → IsMemory e → e ≡ Memory
+is_memory Memory m = refl
+is_memory (Malformed reason offset) m = absurd m

@@ -4,12 +4,14 @@ use Rattle.std.specs.Prelude.{All}
 use Rattle.std.specs.List.{flat_map, AllByRecursion}
 use Rattle.std.proofs.lemmas.Grind.{flat_map-append}
 use Rattle.std.proofs.lemmas.List.Elements.{recursion_from_All, All-from_recursion, All-push}
-use Rattle.std.proofs.lemmas.List.{append_assoc, append-nil, length-append, length-drop, length_push, length-map}
+use Rattle.std.proofs.lemmas.List.{append_assoc, append-nil, length-append, length-drop, drop-drop, length_push, length-map}
+use Rattle.std.proofs.Math.Seq.{drop-append_seam}
 use Rattle.jj_content.specs.Content.{IsLawful, AreValues, u64_content, list_content}
 use Rattle.jj_content.specs.PrefixFreeProofs.{u64_prefix_free, u64_lawful}
 use Rattle.jj_decode.specs.declared.error.DecodeError.{DecodeError}
 use Rattle.jj_decode.specs.declared.error.DecodeError.TheVariants.{Memory, Malformed}
 use Rattle.jj_decode.specs.Decoding.{IsContentAt, NoContentAt, IsErrorAt, AreItems, IsCounted, counted_content, IsMalformedAt}
+use Rattle.jj_decode.specs.Errors.{IsCountAt}
 use Rattle.jj_decode.specs.Contents.{AreContents, ListContents}
 use Rattle.jj_decode.specs.ContentsProofs.{contents_lawful, items_map, items_cover}
 use Rattle.jj_decode.proofs.ContentAt.{end_is, error_by_first, rest_equal, error_image}
@@ -193,3 +195,41 @@ pub contents_list_error : (p : List ℕ → Type 0) (bytes : List ℕ) (start co
 contents_list_error p bytes start count mid s e le n = error_image (AreValues p)
     (list_content (λ b. b)) bytes start e
     (list_items_error p (λ b. b) bytes start count mid s e le n)
+
+pub counted : {bytes : List ℕ} {start count mid : ℕ}
+    → IsContentAt (λ n. n < 2 ^ 64) u64_content bytes start count mid
+    → count ≤ length bytes - mid → IsCountAt bytes start count mid
+counted s le = record { is_count = s; bounded = omega (arith, s.within, le) }
+
+-- a list at `start` begins with a count of at most the number of bytes after it
+pub counted_list : {X : Type 0} (v : X → Type 0) (c : X → List ℕ)
+    → ((x : X) → v x → 0 < length (c x)) → (bytes : List ℕ) (start end : ℕ) (xs : List X)
+    → start ≤ length bytes → IsContentAt (AreValues v) (list_content c) bytes start xs end
+    → (count : ℕ) × (mid : ℕ) × IsCountAt bytes start count mid
+unfolding list_content
+counted_list v c long bytes start end xs le s =
+    let count : List ℕ = u64_content (length xs) in
+    let items : List ℕ = flat_map c xs in
+    let tail : List ℕ = items ++ drop end bytes in
+    let whole : drop start bytes ≡ count ++ tail = s.split
+    ∙ append_assoc count items (drop end bytes) in
+    let after : drop (start + length count) bytes ≡ tail =
+    sym (drop-drop (length count) start bytes) ∙ ap (drop (length count)) whole
+    ∙ drop-append_seam count tail in
+    let lengths : length bytes - start ≡ length count + length tail =
+    sym (length-drop start bytes) ∙ ap length whole ∙ length-append count tail in
+    let longer : length xs ≤ length items =
+    items_length v c long xs (recursion_from_All v xs s.valid.1) in
+    let both : length tail ≡ length items + length (drop end bytes) =
+    length-append items (drop end bytes) in (
+      length xs,
+      start + length count,
+      record {
+        is_count = record {
+          valid = s.valid.0;
+          split = whole ∙ ap (λ (z : List ℕ). count ++ z) (sym after);
+          within = omega (arith, lengths, le);
+        };
+        bounded = omega (arith, lengths, longer, both, le);
+      },
+    )

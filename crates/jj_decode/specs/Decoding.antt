@@ -1,8 +1,7 @@
 -- Contents found at an offset in a byte string, and errors about them.
--- Cited by contracts of public items: AllocatesAfterCount, AreBoth, AreItems, DecodesTo,
--- FitsLength, IsContentAt, IsCounted, IsErrorAt, IsMalformedAt, IsNotMemory, IsString,
--- both_content, counted_content.
-use Rattle.std.specs.Prelude.{◌≡◌, ℕ, ◌<◌, ◌≤◌, ◌-◌, ◌^◌, List, ◌++◌, length, drop, All, Bool, true, Result, Ok, Err, ⊤}
+-- Cited by contracts of public items: AreBoth, AreItems, DecodesTo, FitsLength, IsContentAt,
+-- IsCounted, IsErrorAt, IsMalformedAt, IsString, both_content, counted_content.
+use Rattle.std.specs.Prelude.{◌≡◌, ℕ, ◌<◌, ◌≤◌, ◌^◌, List, ◌++◌, length, drop, All, Bool, true, Result, Ok, Err, ⊤}
 use Rattle.std.specs.List.{AllByRecursion}
 use Rattle.std.specs.List.Sorted.{IsStrictlySortedBy}
 use Rattle.std.specs.Map.{keys_of}
@@ -42,10 +41,6 @@ abbrev pub IsMemory : DecodeError → Type 0
 IsMemory Memory = ⊤
 IsMemory (Malformed reason offset) = ⊥
 
-abbrev pub IsNotMemory : DecodeError → Type 0
-IsNotMemory Memory = ⊥
-IsNotMemory (Malformed reason offset) = ⊤
-
 -- ---- pairs
 
 abbrev pub AreBoth : {X Y : Type 0} → (X → Type 0) → (Y → Type 0) → X × Y → Type 0
@@ -81,18 +76,6 @@ IsCounted p = (p.0 < 2 ^ 64) × (p.0 ≤ length p.1)
 
 abbrev pub counted_content : ℕ × List ℕ → List ℕ
 counted_content p = u64_content p.0 ++ p.1
-
--- a count is at `start`, and at least as many bytes follow it
-pub record HasCountAt (bytes : List ℕ) (start : ℕ) : Type 0 where
-  pub count : ℕ
-  pub end : ℕ
-  pub is_count : IsContentAt (λ n. n < 2 ^ 64) u64_content bytes start count end
-  pub bounded : count ≤ length bytes - end
-
--- memory runs out only after a count that is no greater than the number of remaining bytes
-abbrev pub AllocatesAfterCount : List ℕ → ℕ → DecodeError → Type 0
-AllocatesAfterCount bytes start Memory = HasCountAt bytes start
-AllocatesAfterCount bytes start (Malformed reason offset) = ⊤
 
 -- ---- strings: the length in bytes, then the bytes
 

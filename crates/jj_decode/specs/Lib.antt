@@ -1,4 +1,5 @@
 pub mod Decoding
+pub mod Errors
 pub mod Contents
 pub mod NonemptyProofs
 pub mod ContentsProofs

@@ -1,17 +1,25 @@
 -- The contents of trees and of the values of their entries.
--- Cited by contracts of public items: TreeContents, TreeValueContents, tree_contents,
--- tree_value_contents.
-use Rattle.std.proofs.Common.{◌≡◌, ℕ, zero, suc, List, ◌++◌, Bool, refl, arith}
+-- Cited by contracts of public items: TreeContents, TreeErrors, TreeValueContents, tree_contents,
+-- tree_value_contents, tree_value_errors.
+use Rattle.std.proofs.Common.{◌≡◌, ℕ, zero, suc, List, ◌++◌, Bool, false, ◌⊎◌, refl, arith}
 use Rattle.std.specs.Prelude.{⊤}
-use Rattle.jj_content.specs.Content.{bool_content}
+use Rattle.std.specs.FinMap.{is_sorted}
+use Rattle.jj_content.specs.Content.{AreValues, bool_content}
 use Rattle.jj_decode.specs.Contents.{AreContents, IsContentOf, BothContents, VariantContents}
 use Rattle.jj_decode.specs.ContentsProofs.{contents_of, both_contents, bool_contents, variant_contents}
 use Rattle.jj_decode.specs.NonemptyProofs.{list_nonempty}
 use Rattle.jj_backend.specs.Contents.{AreBytes, bytes_content}
 use Rattle.jj_backend.specs.TreeLaws.{IsEntry, entry_content, IsTree, tree_content, tree_lawful}
+use Rattle.jj_backend.specs.Trees.{Entries}
+use Rattle.jj_paths.specs.Paths.{name_cmp}
 use Rattle.jj_backend.specs.TreeValues.{IsTreeValue, tree_value_content}
 use Rattle.jj_backend.specs.declared.backend.tree_value.TreeValue.{TreeValue}
 use Rattle.jj_backend.specs.declared.backend.tree_value.TreeValue.TheVariants.{File, Symlink, Tree, GitSubmodule}
+use Rattle.jj_decode.specs.declared.error.DecodeError.{DecodeError}
+use Rattle.jj_decode.specs.declared.error.DecodeError.TheVariants.{Malformed}
+use Rattle.jj_decode.specs.declared.error.Malformation.TheVariants.{UnorderedKeys}
+use Rattle.jj_decode.specs.Decoding.{IsContentAt}
+use Rattle.jj_decode.specs.Errors.{BoolErrors, BothErrors, BytesErrors, ListErrors}
 use Rattle.jj_decode.specs.RecordContents.{BytesContents, bytes_contents}
 
 -- ---- tree values: the variant's number before its fields
@@ -73,3 +81,18 @@ TreeContents = IsContentOf IsTree tree_content
 pub tree_contents : AreContents IsTree tree_content TreeContents
 tree_contents = contents_of tree_lawful
     (λ entries valid. list_nonempty IsEntry entry_content entries valid.1)
+
+-- ---- errors
+
+-- the fields by the number of the variant: those of a file, or an id
+abbrev pub tree_value_errors : ℕ → List ℕ → ℕ → DecodeError → Type 0
+tree_value_errors zero = BothErrors AreBytes bytes_content BytesErrors
+    (BothErrors (λ _. ⊤) bool_content BoolErrors BytesErrors)
+tree_value_errors (suc n) = BytesErrors
+
+-- an error of the list of entries, or their names do not ascend
+abbrev pub TreeErrors : (List ℕ → ℕ → DecodeError → Type 0) → List ℕ → ℕ → DecodeError → Type 0
+TreeErrors entry bytes start e = ListErrors IsEntry entry_content entry bytes start e
+    ⊎ ((entries : Entries) × (end : ℕ)
+    × IsContentAt (AreValues IsEntry) tree_content bytes start entries end
+    × (is_sorted name_cmp entries ≡ false) × (e ≡ Malformed UnorderedKeys start))

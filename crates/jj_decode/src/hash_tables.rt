@@ -1,5 +1,5 @@
 //! Hash maps and hash sets: the number of entries, then the entries in key order.
-ghost use Rattle.std.specs.Prelude.{◌≡◌, ◌<◌, ◌≤◌, ◌^◌, length, IfOk, IfErr, MatchBool};
+ghost use Rattle.std.specs.Prelude.{◌≡◌, ◌<◌, ◌≤◌, ◌^◌, ◌⊎◌, length, IfOk, IfErr, MatchBool};
 ghost use Rattle.std.specs.BTreeMap.{IsOrdered};
 ghost use Rattle.std.specs.HashMap.{IsUnique};
 ghost use Rattle.std.specs.HashSet.{IsUnique as HasUniqueKeys};
@@ -10,6 +10,8 @@ ghost use Rattle.jj_content.specs.Content.{AreValues, insertion_sort, map_conten
 ghost use Rattle.jj_decode.specs.Contents.{AreContents, MapContents, SetContents};
 ghost use Rattle.jj_decode.specs.HashTableProofs.{hash_map_contents, hash_set_contents};
 ghost use Rattle.jj_decode.specs.Decoding.{IsContentAt, IsErrorAt, AreMembers, IsGreater, IsMalformedAt, IsMemory};
+ghost use Rattle.jj_decode.specs.Errors.{MapErrors, MemberErrors, SetErrors};
+ghost use Rattle.jj_decode.specs.declared.error.DecodeError.TheVariants.{Memory};
 
 use crate::error::DecodeError;
 use crate::lists::read_count;
@@ -36,10 +38,13 @@ fn into_hash_map<K: Ord + Hash + Drop, V: Drop>(
     Ok(table)
 }
 
-/// Reads a sorted map, which checks the order of the keys, and moves its entries. O(n log n)
-/// comparisons.
+/// Reads a sorted map, which checks the order of the keys in O(n log n) comparisons, and inserts
+/// its entries. An insertion compares a key with those of the same hash. The seed of the hash is
+/// fixed, so keys can be chosen to have one hash: O(n²) comparisons.
 impl<K: ReadContent + Ord + Hash, V: ReadContent> ReadContent for HashMap<K, V> {
     ghost is_content = { MapContents K.cmp K.is_value K.content V.is_value V.content };
+
+    ghost errors = { MapErrors K.cmp K.is_value K.content K.errors V.is_value V.content V.errors };
 
     ghost contents = { hash_map_contents K.total K.matches_eq K.lawful V.lawful };
 
@@ -74,6 +79,8 @@ fn read_members<K: ReadContent + Ord>(
         (flat_map K.content) bytes.now start decoded.0.items decoded.1) }
     ensures malformed { IfErr result (IsErrorAt (AreMembers count K.cmp K.is_value)
         (flat_map K.content) bytes.now start) }
+    ensures error { IfErr result (λ e. (e ≡ Memory)
+        ⊎ MemberErrors K.cmp K.is_value K.content K.errors count bytes.now start e) }
 {
     let mut members = Vec::new(alloc);
     let mut offset = start;
@@ -105,9 +112,13 @@ fn into_hash_set<K: Ord + Hash + Drop>(
     Ok(set)
 }
 
-/// Reads a sorted list and moves its members. O(n) comparisons.
+/// Reads a list, which compares each member with the one before, and inserts the members. An
+/// insertion compares a member with those of the same hash. The seed of the hash is fixed, so
+/// members can be chosen to have one hash: O(n²) comparisons.
 impl<K: ReadContent + Ord + Hash> ReadContent for HashSet<K> {
     ghost is_content = { SetContents K.cmp K.is_value K.content };
+
+    ghost errors = { SetErrors K.cmp K.is_value K.content K.errors };
 
     ghost contents = { hash_set_contents K.total K.matches_eq K.lawful };
 

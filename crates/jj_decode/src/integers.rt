@@ -1,7 +1,8 @@
 //! Little-endian integers.
 ghost use Rattle.std.specs.Prelude.{◌≡◌, ℕ, ◌<◌, ◌≤◌, ◌^◌, ◌∷◌, [], length, IfOk, IfErr};
 ghost use Rattle.jj_content.specs.Content.{u32_content, u64_content};
-ghost use Rattle.jj_decode.specs.Decoding.{IsContentAt, IsErrorAt, IsNotMemory};
+ghost use Rattle.jj_decode.specs.Decoding.{IsContentAt, IsErrorAt};
+ghost use Rattle.jj_decode.specs.Errors.{IntegerErrors};
 
 use crate::error::DecodeError;
 
@@ -12,7 +13,7 @@ pub fn read_u8(bytes: &[u8], start: usize) -> Result<(u8, usize), DecodeError>
         IsContentAt (λ n. n < 2 ^ 8) (λ n. n ∷ []) bytes.now start decoded.0 decoded.1) }
     ensures malformed { IfErr result
         (IsErrorAt (λ n. n < 2 ^ 8) (λ n. n ∷ []) bytes.now start) }
-    ensures not_memory { IfErr result IsNotMemory }
+    ensures error { IfErr result (IntegerErrors 1 bytes.now start) }
 {
     if start < bytes.len() {
         Ok((bytes[start], start + 1))
@@ -27,7 +28,7 @@ pub fn read_u32(bytes: &[u8], start: usize) -> Result<(u32, usize), DecodeError>
     ensures decoded { IfOk result (λ decoded.
         IsContentAt (λ n. n < 2 ^ 32) u32_content bytes.now start decoded.0 decoded.1) }
     ensures malformed { IfErr result (IsErrorAt (λ n. n < 2 ^ 32) u32_content bytes.now start) }
-    ensures not_memory { IfErr result IsNotMemory }
+    ensures error { IfErr result (IntegerErrors 4 bytes.now start) }
 {
     if bytes.len() - start < 4 {
         return Err(DecodeError::truncated(start));
@@ -43,7 +44,7 @@ pub fn read_u64(bytes: &[u8], start: usize) -> Result<(u64, usize), DecodeError>
     ensures decoded { IfOk result (λ decoded.
         IsContentAt (λ n. n < 2 ^ 64) u64_content bytes.now start decoded.0 decoded.1) }
     ensures malformed { IfErr result (IsErrorAt (λ n. n < 2 ^ 64) u64_content bytes.now start) }
-    ensures not_memory { IfErr result IsNotMemory }
+    ensures error { IfErr result (IntegerErrors 8 bytes.now start) }
 {
     if bytes.len() - start < 8 {
         return Err(DecodeError::truncated(start));

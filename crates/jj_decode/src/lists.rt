@@ -1,9 +1,11 @@
 //! Lists: the number of items, then the items.
-ghost use Rattle.std.specs.Prelude.{◌≡◌, ℕ, ◌<◌, ◌≤◌, ◌-◌, ◌^◌, length, IfOk, IfErr};
+ghost use Rattle.std.specs.Prelude.{◌≡◌, ℕ, ◌<◌, ◌≤◌, ◌-◌, ◌^◌, ◌⊎◌, length, IfOk, IfErr};
 ghost use Rattle.std.specs.List.{flat_map};
 ghost use Rattle.jj_content.specs.Content.{u64_content, list_content, AreValues};
 ghost use Rattle.jj_decode.specs.Contents.{ListContents};
-ghost use Rattle.jj_decode.specs.Decoding.{IsContentAt, IsErrorAt, IsMalformedAt, AreItems, IsCounted, counted_content, AllocatesAfterCount, IsNotMemory};
+ghost use Rattle.jj_decode.specs.Decoding.{IsContentAt, IsErrorAt, IsMalformedAt, AreItems, IsCounted, counted_content};
+ghost use Rattle.jj_decode.specs.Errors.{CountErrors, ItemErrors, ListErrors};
+ghost use Rattle.jj_decode.specs.declared.error.DecodeError.TheVariants.{Memory};
 
 use crate::error::DecodeError;
 use crate::integers::read_u64;
@@ -18,7 +20,7 @@ pub fn read_count(bytes: &[u8], start: usize) -> Result<(usize, usize), DecodeEr
         IsContentAt (λ n. n < 2 ^ 64) u64_content bytes.now start decoded.0 decoded.1) }
     ensures bounded { IfOk result (λ decoded. decoded.0 ≤ length bytes.now - decoded.1) }
     ensures malformed { IfErr result (IsErrorAt IsCounted counted_content bytes.now start) }
-    ensures not_memory { IfErr result IsNotMemory }
+    ensures error { IfErr result (CountErrors bytes.now start) }
 {
     let (count, mid) = read_u64(bytes, start)?;
     let count = count as usize;
@@ -41,6 +43,8 @@ pub fn read_items<T: ReadContent>(
         (flat_map T.content) bytes.now start decoded.0.items decoded.1) }
     ensures malformed { IfErr result (IsErrorAt (AreItems count T.is_content) (flat_map (λ b. b))
         bytes.now start) }
+    ensures error { IfErr result (λ e. (e ≡ Memory)
+        ⊎ ItemErrors count T.is_value T.content T.errors bytes.now start e) }
 {
     let mut items = Vec::new(alloc);
     let mut offset = start;
@@ -63,7 +67,7 @@ pub fn read_list<T: ReadContent>(
     ensures decoded { IfOk result (λ decoded. IsContentAt (AreValues T.is_value)
         (list_content T.content) bytes.now start decoded.0.items decoded.1) }
     ensures malformed { IfErr result (IsMalformedAt (ListContents T.is_content) bytes.now start) }
-    ensures allocation { IfErr result (AllocatesAfterCount bytes.now start) }
+    ensures error { IfErr result (ListErrors T.is_value T.content T.errors bytes.now start) }
 {
     let (count, mid) = read_count(bytes, start)?;
     let (items, end) = read_items(alloc, bytes, mid, count)?;

@@ -1,5 +1,5 @@
 //! Maps: the number of entries, then each key and value in key order.
-ghost use Rattle.std.specs.Prelude.{◌≡◌, ◌<◌, ◌≤◌, ◌^◌, length, IfOk, IfErr, MatchBool};
+ghost use Rattle.std.specs.Prelude.{◌≡◌, ◌<◌, ◌≤◌, ◌^◌, ◌⊎◌, length, IfOk, IfErr, MatchBool};
 ghost use Rattle.std.specs.BTreeMap.{IsOrdered};
 ghost use Rattle.std.specs.List.{flat_map};
 ghost use Rattle.std.specs.Map.{keys_of};
@@ -7,6 +7,8 @@ ghost use Rattle.jj_content.specs.Content.{entry_content, list_content, AreValue
 ghost use Rattle.jj_decode.specs.Contents.{AreContents, MapContents};
 ghost use Rattle.jj_decode.specs.ContentsProofs.{contents_on, map_contents};
 ghost use Rattle.jj_decode.specs.Decoding.{IsContentAt, IsErrorAt, AreEntries, IsGreater, IsMalformedAt};
+ghost use Rattle.jj_decode.specs.Errors.{EntryErrors, MapErrors};
+ghost use Rattle.jj_decode.specs.declared.error.DecodeError.TheVariants.{Memory};
 
 use crate::error::DecodeError;
 use crate::lists::read_count;
@@ -40,6 +42,9 @@ fn read_entries<K: ReadContent + Ord, V: ReadContent>(
     ensures malformed { IfErr result (IsErrorAt
         (AreEntries count K.cmp K.is_value V.is_value)
         (flat_map (entry_content K.content V.content)) bytes.now start) }
+    ensures error { IfErr result (λ e. (e ≡ Memory)
+        ⊎ EntryErrors K.cmp K.is_value K.content K.errors V.is_value V.content V.errors count
+        bytes.now start e) }
 {
     let mut map = BTreeMap::new(alloc);
     let mut offset = start;
@@ -56,6 +61,8 @@ fn read_entries<K: ReadContent + Ord, V: ReadContent>(
 
 impl<K: ReadContent + Ord, V: ReadContent> ReadContent for BTreeMap<K, V> {
     ghost is_content = { MapContents K.cmp K.is_value K.content V.is_value V.content };
+
+    ghost errors = { MapErrors K.cmp K.is_value K.content K.errors V.is_value V.content V.errors };
 
     ghost contents = { contents_on (λ m. m.entries) (map_contents K.cmp K.lawful V.lawful) };
 

@@ -7,6 +7,8 @@ ghost use Rattle.jj_content.specs.Content.{u32_content, u64_content, i32_content
 ghost use Rattle.jj_decode.specs.Contents.{AreContents, IsContentOf, BothContents, OptionContents, ListContents};
 ghost use Rattle.jj_decode.specs.ContentsProofs.{contents_on, u8_contents, u32_contents, u64_contents, i32_contents, i64_contents, bool_contents, both_contents, option_contents, list_contents, string_contents};
 ghost use Rattle.jj_decode.specs.Decoding.{IsContentAt, IsMalformedAt, IsString, AreBoth, both_content};
+ghost use Rattle.jj_decode.specs.Errors.{BoolErrors, BothErrors, IntegerErrors, ListErrors, OptionErrors, StringErrors};
+ghost use Rattle.jj_decode.specs.declared.error.DecodeError.{DecodeError as ErrorValue};
 
 use crate::error::DecodeError;
 use crate::integers::{read_u8, read_u32, read_u64};
@@ -21,16 +23,21 @@ pub trait ReadContent: ContentHash + Drop {
     /// The set of contents of the type.
     ghost is_content: { List ℕ → Type 0 };
 
+    /// The errors of reading a value, by the bytes and the offset of the value in them: the first
+    /// part that the bytes lack, or `Memory` for what they announce and can hold.
+    ghost errors: { List ℕ → ℕ → ErrorValue → Type 0 };
+
     /// Reads a value whose content begins at `start`. Returns it and the offset after its content.
     /// Returns `DecodeError::Malformed` only if no content of the type begins there. Linear in the
-    /// bytes read, apart from the comparison of keys in maps and sets; recursion is as deep as the
-    /// type is nested, whatever the bytes are. A count is checked against the number of remaining
-    /// bytes before memory is allocated for what it counts.
+    /// bytes read, apart from maps and sets; recursion is as deep as the type is nested, whatever
+    /// the bytes are. A count is checked against the number of remaining bytes before memory is
+    /// allocated for what it counts.
     fn read(alloc: Global, bytes: &[u8], start: usize) -> Result<(Self, usize), DecodeError>
         requires { start ≤ length bytes.now }
         ensures decoded { IfOk result (λ decoded.
             IsContentAt Self.is_value Self.content bytes.now start decoded.0 decoded.1) }
-        ensures malformed { IfErr result (IsMalformedAt is_content bytes.now start) };
+        ensures malformed { IfErr result (IsMalformedAt is_content bytes.now start) }
+        ensures error { IfErr result (errors bytes.now start) };
 
     /// The set includes the content of each value, is prefix-free, and has no empty member.
     ghost contents: { AreContents Self.is_value Self.content is_content };
@@ -38,6 +45,8 @@ pub trait ReadContent: ContentHash + Drop {
 
 impl ReadContent for u8 {
     ghost is_content = { IsContentOf (λ n. n < 2 ^ 8) (λ n. n ∷ []) };
+
+    ghost errors = { IntegerErrors 1 };
 
     ghost contents = { u8_contents };
 
@@ -49,6 +58,8 @@ impl ReadContent for u8 {
 impl ReadContent for u32 {
     ghost is_content = { IsContentOf (λ n. n < 2 ^ 32) u32_content };
 
+    ghost errors = { IntegerErrors 4 };
+
     ghost contents = { u32_contents };
 
     fn read(_alloc: Global, bytes: &[u8], start: usize) -> Result<(Self, usize), DecodeError> {
@@ -59,6 +70,8 @@ impl ReadContent for u32 {
 impl ReadContent for u64 {
     ghost is_content = { IsContentOf (λ n. n < 2 ^ 64) u64_content };
 
+    ghost errors = { IntegerErrors 8 };
+
     ghost contents = { u64_contents };
 
     fn read(_alloc: Global, bytes: &[u8], start: usize) -> Result<(Self, usize), DecodeError> {
@@ -68,6 +81,8 @@ impl ReadContent for u64 {
 
 impl ReadContent for i32 {
     ghost is_content = { IsContentOf (FitsSigned w32) i32_content };
+
+    ghost errors = { IntegerErrors 4 };
 
     ghost contents = { i32_contents };
 
@@ -80,6 +95,8 @@ impl ReadContent for i32 {
 impl ReadContent for i64 {
     ghost is_content = { IsContentOf (FitsSigned w64) i64_content };
 
+    ghost errors = { IntegerErrors 8 };
+
     ghost contents = { i64_contents };
 
     fn read(_alloc: Global, bytes: &[u8], start: usize) -> Result<(Self, usize), DecodeError> {
@@ -90,6 +107,8 @@ impl ReadContent for i64 {
 
 impl ReadContent for bool {
     ghost is_content = { IsContentOf (λ _. ⊤) bool_content };
+
+    ghost errors = { BoolErrors };
 
     ghost contents = { bool_contents };
 
@@ -107,6 +126,8 @@ impl ReadContent for bool {
 impl ReadContent for String {
     ghost is_content = { IsContentOf IsString string_content };
 
+    ghost errors = { StringErrors };
+
     ghost contents = { contents_on (λ s. string_bytes s) string_contents };
 
     fn read(alloc: Global, bytes: &[u8], start: usize) -> Result<(Self, usize), DecodeError> {
@@ -117,6 +138,8 @@ impl ReadContent for String {
 
 impl<T: ReadContent> ReadContent for Option<T> {
     ghost is_content = { OptionContents T.is_content };
+
+    ghost errors = { OptionErrors T.errors };
 
     ghost contents = { option_contents T.contents };
 
@@ -135,6 +158,8 @@ impl<T: ReadContent> ReadContent for Option<T> {
 
 impl<T: ReadContent> ReadContent for Vec<T> {
     ghost is_content = { ListContents T.is_content };
+
+    ghost errors = { ListErrors T.is_value T.content T.errors };
 
     ghost contents = { contents_on (λ v. v.items) (list_contents T.contents) };
 
@@ -155,6 +180,8 @@ pub fn read_both<A: ReadContent, B: ReadContent>(
     ensures decoded { IfOk result (λ decoded. IsContentAt (AreBoth A.is_value B.is_value)
         (both_content A.content B.content) bytes.now start decoded.0 decoded.1) }
     ensures malformed { IfErr result (IsMalformedAt (BothContents A.is_content B.is_content)
+        bytes.now start) }
+    ensures error { IfErr result (BothErrors A.is_value A.content A.errors B.errors
         bytes.now start) }
 {
     let (first, mid) = A::read(alloc, bytes, start)?;

@@ -2,7 +2,8 @@
 ghost use Rattle.std.specs.Prelude.{◌<◌, ◌≤◌, ◌^◌, ◌∷◌, [], length, IfOk, IfErr};
 ghost use Rattle.jj_content.specs.Content.{string_content, list_content, AreValues};
 ghost use Rattle.jj_decode.specs.Contents.{IsContentOf, ListContents};
-ghost use Rattle.jj_decode.specs.Decoding.{IsContentAt, IsErrorAt, IsMalformedAt, FitsLength, IsString, IsNotMemory};
+ghost use Rattle.jj_decode.specs.Decoding.{IsContentAt, IsErrorAt, IsMalformedAt, FitsLength, IsString};
+ghost use Rattle.jj_decode.specs.Errors.{CountErrors, StrErrors, BytesErrors};
 
 use crate::error::DecodeError;
 use crate::lists::read_count;
@@ -15,7 +16,7 @@ pub fn read_byte_slice(bytes: &[u8], start: usize) -> Result<(&[u8], usize), Dec
     ensures decoded { IfOk result (λ decoded.
         IsContentAt FitsLength string_content bytes.now start decoded.0.now decoded.1) }
     ensures malformed { IfErr result (IsErrorAt FitsLength string_content bytes.now start) }
-    ensures not_memory { IfErr result IsNotMemory }
+    ensures error { IfErr result (CountErrors bytes.now start) }
 {
     let (count, mid) = read_count(bytes, start)?;
     let end = mid + count;
@@ -34,6 +35,7 @@ pub fn read_bytes(
         (list_content (λ n. n ∷ [])) bytes.now start decoded.0.items decoded.1) }
     ensures malformed { IfErr result (IsMalformedAt
         (ListContents (IsContentOf (λ n. n < 2 ^ 8) (λ n. n ∷ []))) bytes.now start) }
+    ensures error { IfErr result (BytesErrors bytes.now start) }
 {
     let (slice, end) = read_byte_slice(bytes, start)?;
     let owned = Vec::from_slice(alloc, slice)?;
@@ -46,7 +48,7 @@ pub fn read_str(bytes: &[u8], start: usize) -> Result<(&str, usize), DecodeError
     ensures decoded { IfOk result (λ decoded.
         IsContentAt IsString string_content bytes.now start decoded.0.now decoded.1) }
     ensures malformed { IfErr result (IsErrorAt IsString string_content bytes.now start) }
-    ensures not_memory { IfErr result IsNotMemory }
+    ensures error { IfErr result (StrErrors bytes.now start) }
 {
     let (slice, end) = read_byte_slice(bytes, start)?;
     match from_utf8(slice) {

@@ -3,6 +3,7 @@ ghost use Rattle.std.specs.Prelude.{◌≡◌, ◌++◌, List, IfOk, IfErr};
 ghost use Rattle.jj_decode.specs.Contents.{AreContents, BothContents};
 ghost use Rattle.jj_decode.specs.ContentsProofs.{contents_on, both_contents};
 ghost use Rattle.jj_decode.specs.Decoding.{IsContentAt, IsMalformedAt};
+ghost use Rattle.jj_decode.specs.Errors.{BothErrors};
 
 use crate::error::DecodeError;
 use crate::read_content::{ReadContent, read_both};
@@ -10,6 +11,8 @@ use std::alloc::Global;
 
 impl<T: ReadContent> ReadContent for (T,) {
     ghost is_content = { T.is_content };
+
+    ghost errors = { T.errors };
 
     ghost contents = { contents_on (λ p. p.0) T.contents };
 
@@ -22,6 +25,8 @@ impl<T: ReadContent> ReadContent for (T,) {
 impl<T: ReadContent, U: ReadContent> ReadContent for (T, U) {
     ghost is_content = { BothContents T.is_content U.is_content };
 
+    ghost errors = { BothErrors T.is_value T.content T.errors U.errors };
+
     ghost contents = { both_contents T.contents U.contents };
 
     fn read(alloc: Global, bytes: &[u8], start: usize) -> Result<(Self, usize), DecodeError> {
@@ -31,6 +36,8 @@ impl<T: ReadContent, U: ReadContent> ReadContent for (T, U) {
 
 impl<A: ReadContent, B: ReadContent, C: ReadContent> ReadContent for (A, B, C) {
     ghost is_content = { BothContents (BothContents A.is_content B.is_content) C.is_content };
+
+    ghost errors = { ⟦<((A, B), C) as ReadContent>⟧.errors };
 
     ghost contents = { contents_on (λ p. ((p.0, p.1), p.2))
         (both_contents (both_contents A.contents B.contents) C.contents) };
@@ -45,6 +52,8 @@ impl<A: ReadContent, B: ReadContent, C: ReadContent> ReadContent for (A, B, C) {
 impl<A: ReadContent, B: ReadContent, C: ReadContent, D: ReadContent> ReadContent for (A, B, C, D) {
     ghost is_content = { BothContents
         (BothContents (BothContents A.is_content B.is_content) C.is_content) D.is_content };
+
+    ghost errors = { ⟦<((A, B, C), D) as ReadContent>⟧.errors };
 
     ghost contents = { contents_on (λ p. (((p.0, p.1), p.2), p.3)) (both_contents
         (both_contents (both_contents A.contents B.contents) C.contents) D.contents) };

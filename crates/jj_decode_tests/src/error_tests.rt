@@ -1,4 +1,4 @@
-//! The reason and the offset of each error, which no contract states.
+//! The reason and the offset of each error.
 use jj_decode::decode::decode_content;
 use jj_decode::error::{DecodeError, Malformation};
 use std::collections::{BTreeMap, HashMap, HashSet};

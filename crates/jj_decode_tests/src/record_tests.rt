@@ -1,5 +1,5 @@
 //! Each record, decoded from its content, from each prefix of it, and from it and one more byte: no
-//! contract states that decoding succeeds, or the reason of an error.
+//! contract states that decoding succeeds.
 use crate::records;
 use jj_backend::backend::{MillisSinceEpoch, TreeValue};
 use jj_content::content_hash::content_of;

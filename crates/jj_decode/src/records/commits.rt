@@ -6,11 +6,19 @@ ghost use Rattle.jj_decode.specs.RecordContents.{CommitContents, commit_contents
 
 use crate::error::DecodeError;
 use crate::read_content::{ReadContent, read_both};
-use jj_backend::backend::{Commit, CopyHistory};
+use jj_backend::backend::{
+    ChangeId, Commit, CommitId, CopyHistory, CopyId, SecureSig, Signature, TreeId,
+};
+use jj_merges::merge::Merge;
+use jj_paths::repo_path::RepoPathBuf;
 use std::alloc::Global;
 
 impl ReadContent for Commit {
     ghost is_content = { CommitContents };
+
+    ghost errors = { ⟦<((Vec<CommitId>, (Vec<CommitId>, Merge<TreeId>)),
+        ((Merge<String>, (ChangeId, String)), (Signature, (Signature, Option<SecureSig>))))
+        as ReadContent>⟧.errors };
 
     ghost contents = { commit_contents };
 
@@ -36,6 +44,8 @@ impl ReadContent for Commit {
 
 impl ReadContent for CopyHistory {
     ghost is_content = { CopyHistoryContents };
+
+    ghost errors = { ⟦<(RepoPathBuf, (Vec<CopyId>, Vec<u8>)) as ReadContent>⟧.errors };
 
     ghost contents = { copy_history_contents };
 

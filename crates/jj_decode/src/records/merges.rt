@@ -6,6 +6,7 @@ ghost use Rattle.jj_decode.specs.Decoding.{IsContentAt, IsMalformedAt};
 ghost use Rattle.jj_merges.specs.Contents.{IsMergeOf};
 ghost use Rattle.jj_merges.specs.Merge.{IsOdd};
 ghost use Rattle.jj_decode.specs.MergeContents.{MergeContents, merge_contents};
+ghost use Rattle.jj_decode.specs.Errors.{MergeErrors};
 
 use crate::error::DecodeError;
 use crate::lists::{read_count, read_items};
@@ -26,6 +27,8 @@ fn merge_of<T: Drop>(alloc: Global, terms: Vec<T>) -> Result<Merge<T>, AllocErro
 /// Reads the number of terms, and fails before it allocates if that is even.
 impl<T: ReadContent> ReadContent for Merge<T> {
     ghost is_content = { MergeContents T.is_content };
+
+    ghost errors = { MergeErrors T.is_value T.content T.errors };
 
     ghost contents = { merge_contents T.contents };
 

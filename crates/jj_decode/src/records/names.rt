@@ -4,6 +4,7 @@ ghost use Rattle.jj_content.specs.Content.{string_content};
 ghost use Rattle.jj_decode.specs.Contents.{AreContents, IsContentOf};
 ghost use Rattle.jj_decode.specs.ContentsProofs.{string_contents};
 ghost use Rattle.jj_decode.specs.Decoding.{IsContentAt, IsMalformedAt, IsString};
+ghost use Rattle.jj_decode.specs.Errors.{StringErrors};
 
 use crate::error::DecodeError;
 use crate::read_content::ReadContent;
@@ -12,6 +13,8 @@ use std::alloc::Global;
 
 impl<K: Drop> ReadContent for NameBuf<K> {
     ghost is_content = { IsContentOf IsString string_content };
+
+    ghost errors = { StringErrors };
 
     ghost contents = { string_contents };
 

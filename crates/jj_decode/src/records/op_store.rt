@@ -4,16 +4,24 @@ ghost use Rattle.jj_decode.specs.Contents.{AreContents};
 ghost use Rattle.jj_decode.specs.Decoding.{IsContentAt, IsMalformedAt};
 ghost use Rattle.jj_decode.specs.ViewContents.{StateContents, state_contents, RemoteRefContents, remote_ref_contents, RemoteViewContents, remote_view_contents, ViewContents, view_contents};
 ghost use Rattle.jj_decode.specs.OperationContents.{RangeContents, range_contents, MetadataContents, metadata_contents, OperationContents, operation_contents};
+ghost use Rattle.jj_decode.specs.Errors.{NoErrors, VariantErrors};
 
 use crate::error::DecodeError;
 use crate::read_content::{ReadContent, read_both};
+use jj_backend::backend::{CommitId, Timestamp};
+use jj_ids::object_id::{OperationId, ViewId};
+use jj_ids::ref_name::{GitRefNameBuf, RefNameBuf, RemoteNameBuf, WorkspaceNameBuf};
 use jj_stores::op_store::{
-    Operation, OperationMetadata, RemoteRef, RemoteRefState, RemoteView, TimestampRange, View,
+    Operation, OperationMetadata, RefTarget, RemoteRef, RemoteRefState, RemoteView, TimestampRange,
+    View,
 };
 use std::alloc::Global;
+use std::collections::{BTreeMap, HashSet};
 
 impl ReadContent for RemoteRefState {
     ghost is_content = { StateContents };
+
+    ghost errors = { VariantErrors 2 (λ _. NoErrors) };
 
     ghost contents = { state_contents };
 
@@ -30,6 +38,8 @@ impl ReadContent for RemoteRefState {
 impl ReadContent for RemoteRef {
     ghost is_content = { RemoteRefContents };
 
+    ghost errors = { ⟦<(RefTarget, RemoteRefState) as ReadContent>⟧.errors };
+
     ghost contents = { remote_ref_contents };
 
     fn read(alloc: Global, bytes: &[u8], start: usize) -> Result<(Self, usize), DecodeError> {
@@ -41,6 +51,9 @@ impl ReadContent for RemoteRef {
 impl ReadContent for RemoteView {
     ghost is_content = { RemoteViewContents };
 
+    ghost errors = { ⟦<(BTreeMap<RefNameBuf, RemoteRef>, BTreeMap<RefNameBuf, RemoteRef>)
+        as ReadContent>⟧.errors };
+
     ghost contents = { remote_view_contents };
 
     fn read(alloc: Global, bytes: &[u8], start: usize) -> Result<(Self, usize), DecodeError> {
@@ -51,6 +64,12 @@ impl ReadContent for RemoteView {
 
 impl ReadContent for View {
     ghost is_content = { ViewContents };
+
+    ghost errors = { ⟦<((HashSet<CommitId>,
+        (BTreeMap<RefNameBuf, RefTarget>, BTreeMap<RefNameBuf, RefTarget>)),
+        ((BTreeMap<RemoteNameBuf, RemoteView>, BTreeMap<GitRefNameBuf, RefTarget>),
+        (BTreeMap<WorkspaceNameBuf, RefTarget>, BTreeMap<WorkspaceNameBuf, CommitId>)))
+        as ReadContent>⟧.errors };
 
     ghost contents = { view_contents };
 
@@ -75,6 +94,8 @@ impl ReadContent for View {
 impl ReadContent for TimestampRange {
     ghost is_content = { RangeContents };
 
+    ghost errors = { ⟦<(Timestamp, Timestamp) as ReadContent>⟧.errors };
+
     ghost contents = { range_contents };
 
     fn read(alloc: Global, bytes: &[u8], start: usize) -> Result<(Self, usize), DecodeError> {
@@ -89,6 +110,9 @@ impl ReadContent for TimestampRange {
 
 impl ReadContent for OperationMetadata {
     ghost is_content = { MetadataContents };
+
+    ghost errors = { ⟦<((TimestampRange, String), ((String, String),
+        (bool, (Option<WorkspaceNameBuf>, BTreeMap<String, String>)))) as ReadContent>⟧.errors };
 
     ghost contents = { metadata_contents };
 
@@ -112,6 +136,9 @@ impl ReadContent for OperationMetadata {
 
 impl ReadContent for Operation {
     ghost is_content = { OperationContents };
+
+    ghost errors = { ⟦<((ViewId, Vec<OperationId>),
+        (OperationMetadata, Option<BTreeMap<CommitId, Vec<CommitId>>>)) as ReadContent>⟧.errors };
 
     ghost contents = { operation_contents };
 

@@ -7,6 +7,7 @@ ghost use Rattle.jj_decode.specs.declared.error.DecodeError.TheVariants.{Malform
 ghost use Rattle.jj_decode.specs.declared.error.Malformation.TheVariants.{InvalidValue};
 ghost use Rattle.jj_paths.specs.Contents.{IsShortName, IsPathText};
 ghost use Rattle.jj_decode.specs.PathContents.{name_contents, path_contents};
+ghost use Rattle.jj_decode.specs.Errors.{TextErrors};
 
 use crate::error::DecodeError;
 use crate::read_content::ReadContent;
@@ -23,6 +24,8 @@ fn path_error(start: usize, _error: InvalidNewRepoPathError) -> DecodeError
 impl ReadContent for RepoPathComponentBuf {
     ghost is_content = { IsContentOf IsShortName string_content };
 
+    ghost errors = { TextErrors IsShortName };
+
     ghost contents = { name_contents };
 
     fn read(alloc: Global, bytes: &[u8], start: usize) -> Result<(Self, usize), DecodeError> {
@@ -36,6 +39,8 @@ impl ReadContent for RepoPathComponentBuf {
 
 impl ReadContent for RepoPathBuf {
     ghost is_content = { IsContentOf IsPathText string_content };
+
+    ghost errors = { TextErrors IsPathText };
 
     ghost contents = { path_contents };
 

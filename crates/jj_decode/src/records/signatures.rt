@@ -12,6 +12,8 @@ use std::alloc::Global;
 impl ReadContent for MillisSinceEpoch {
     ghost is_content = { MillisContents };
 
+    ghost errors = { ⟦<i64 as ReadContent>⟧.errors };
+
     ghost contents = { millis_contents };
 
     fn read(alloc: Global, bytes: &[u8], start: usize) -> Result<(Self, usize), DecodeError> {
@@ -22,6 +24,8 @@ impl ReadContent for MillisSinceEpoch {
 
 impl ReadContent for Timestamp {
     ghost is_content = { TimestampContents };
+
+    ghost errors = { ⟦<(MillisSinceEpoch, i32) as ReadContent>⟧.errors };
 
     ghost contents = { timestamp_contents };
 
@@ -38,6 +42,8 @@ impl ReadContent for Timestamp {
 impl ReadContent for Signature {
     ghost is_content = { SignatureContents };
 
+    ghost errors = { ⟦<(String, (String, Timestamp)) as ReadContent>⟧.errors };
+
     ghost contents = { signature_contents };
 
     fn read(alloc: Global, bytes: &[u8], start: usize) -> Result<(Self, usize), DecodeError> {
@@ -53,6 +59,8 @@ impl ReadContent for Signature {
 
 impl ReadContent for SecureSig {
     ghost is_content = { SecureSigContents };
+
+    ghost errors = { ⟦<(Vec<u8>, Vec<u8>) as ReadContent>⟧.errors };
 
     ghost contents = { secure_sig_contents };
 

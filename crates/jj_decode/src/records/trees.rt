@@ -2,16 +2,20 @@
 ghost use Rattle.std.specs.Prelude.{◌≡◌, ℕ, ◌<◌, ◌≤◌, List, length, ◌++◌, IfOk, IfErr};
 ghost use Rattle.jj_decode.specs.Contents.{AreContents};
 ghost use Rattle.jj_decode.specs.Decoding.{IsContentAt, IsMalformedAt};
-ghost use Rattle.jj_decode.specs.TreeContents.{TreeContents, tree_contents, TreeValueContents, tree_value_contents};
+ghost use Rattle.jj_decode.specs.TreeContents.{TreeContents, TreeErrors, tree_contents, TreeValueContents, tree_value_contents, tree_value_errors};
+ghost use Rattle.jj_decode.specs.Errors.{VariantErrors};
 
 use crate::error::DecodeError;
 use crate::lists::read_list;
 use crate::read_content::{ReadContent, read_both};
 use jj_backend::backend::{Tree, TreeValue};
+use jj_paths::repo_path::RepoPathComponentBuf;
 use std::alloc::Global;
 
 impl ReadContent for TreeValue {
     ghost is_content = { TreeValueContents };
+
+    ghost errors = { VariantErrors 4 tree_value_errors };
 
     ghost contents = { tree_value_contents };
 
@@ -48,6 +52,8 @@ impl ReadContent for TreeValue {
 /// strictly.
 impl ReadContent for Tree {
     ghost is_content = { TreeContents };
+
+    ghost errors = { TreeErrors ⟦<(RepoPathComponentBuf, TreeValue) as ReadContent>⟧.errors };
 
     ghost contents = { tree_contents };
 

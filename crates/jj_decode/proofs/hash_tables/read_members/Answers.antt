@@ -1,4 +1,4 @@
-use Rattle.std.proofs.Common.{◌∙◌, List, subst, sym}
+use Rattle.std.proofs.Common.{◌∙◌, List, subst, sym, inl, inr}
 use Rattle.std.specs.List.Sorted.{IsStrictlySortedBy}
 use Rattle.std.proofs.lemmas.List.{map-id}
 use Rattle.std.proofs.lemmas.Result.{err_from_is_err_and}
@@ -60,3 +60,46 @@ loop-preserved g c =
       ordered = rw is (sorted_push g.met.K.Ord.total c.loop.members.items c.in_ok-member.member
           c.loop.invariant.ordered greater);
     }
+
+pub returns-in_err-member-clause-error : goal.returns-in_err-member-clause-error
+returns-in_err-member-clause-error g c =
+    let p = err_from_is_err_and c.from_residual.result c.from_residual.ensures.1 in
+    let read = c.loop.invariant.items_read in
+    rw (p.1, p.2) (inr (
+      c.loop.counter,
+      c.loop.members.items,
+      c.loop.offset,
+      c.loop-test.true,
+      record {
+        valid = ((read.len, read.values), c.loop.invariant.ordered);
+        split = read.split;
+        within = read.within;
+      },
+      inl c.in_err-member.ensures.error,
+    ))
+
+pub returns-then-not-is_greatest_member-clause-error : goal.returns-then-not-is_greatest_member-clause-error
+returns-then-not-is_greatest_member-clause-error g c =
+    let Member : Type 0 = g.row.K.Denot in
+    let member = c.in_ok-member.member in
+    let read = c.loop.invariant.items_read in
+    inr (
+      c.loop.counter,
+      c.loop.members.items,
+      c.loop.offset,
+      c.loop-test.true,
+      record {
+        valid = ((read.len, read.values), c.loop.invariant.ordered);
+        split = read.split;
+        within = read.within;
+      },
+      inr (
+        member,
+        c.in_ok-member.end,
+        c.in_ok-member.ensures.decoded,
+        (λ greater. c.if-not-is_greatest_member.ensures
+            (subst (λ (ks : List Member). IsGreater g.K.Ord.cmp ks member)
+            (sym c.deref.ensures.value) greater)),
+        c.unordered_keys.ensures,
+      ),
+    )

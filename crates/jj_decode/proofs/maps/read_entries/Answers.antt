@@ -1,4 +1,4 @@
-use Rattle.std.proofs.Common.{◌≡◌, ◌∷◌, ◌++◌, [], ◌∙◌, List}
+use Rattle.std.proofs.Common.{◌≡◌, ◌∷◌, ◌++◌, [], ◌∙◌, List, inr}
 use Rattle.std.specs.List.Sorted.{IsStrictlySortedBy}
 use Rattle.std.specs.Map.{keys_of}
 use Rattle.std.proofs.lemmas.Result.{err_from_is_err_and}
@@ -58,3 +58,25 @@ loop-preserved g c =
           c.in_ok-key.ensures.decoded);
       ordered = c.insert.ensures.ordered;
     }
+
+pub returns-then-not-is_greatest_key-clause-error : goal.returns-then-not-is_greatest_key-clause-error
+returns-then-not-is_greatest_key-clause-error g c =
+    let read = c.loop.invariant.items_read in
+    inr (
+      c.loop.counter,
+      c.loop.map.entries,
+      c.loop.offset,
+      c.loop-test.true,
+      record {
+        valid = ((read.len, read.values), c.loop.invariant.ordered);
+        split = read.split;
+        within = read.within;
+      },
+      inr (
+        (c.in_ok-key.key, c.in_ok-key.value),
+        c.in_ok-key.end,
+        c.in_ok-key.ensures.decoded,
+        c.if-not-is_greatest_key.ensures,
+        c.unordered_keys.ensures,
+      ),
+    )

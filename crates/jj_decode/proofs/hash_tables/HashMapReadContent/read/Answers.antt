@@ -1,11 +1,13 @@
-use Rattle.std.proofs.Common.{◌++◌, List, drop, subst, sym, ap, ◌∙◌}
+use Rattle.std.proofs.Common.{inl, inr, ◌++◌, List, drop, subst, sym, ap, ◌∙◌}
 use Rattle.std.specs.Ordering.{on}
 use Rattle.std.proofs.lemmas.Result.{err_from_is_err_and}
 use Rattle.jj_content.specs.Content.{AreValues, list_content, entry_content}
 use Rattle.jj_content.specs.HashTableProofs.{values_from_sorted}
 use Rattle.jj_decode.specs.Decoding.{AreBoth}
 use Rattle.jj_decode.specs.Contents.{MapContents}
-use Rattle.jj_decode.proofs.ContentAt.{memory_error}
+use Rattle.jj_decode.proofs.ContentAt.{memory_error, is_memory}
+use Rattle.jj_decode.proofs.ListItems.{counted_list}
+use Rattle.jj_decode.specs.NonemptyProofs.{both_nonempty}
 use Rattle.jj_decode.proofs.hash_tables.HashMapReadContent.read.Goals as goal
 
 pub returns-in_err-table-clause-malformed : goal.returns-in_err-table-clause-malformed
@@ -36,3 +38,22 @@ returns-clause-decoded g c =
           ++ drop c.in_ok-map.end c.args.bytes.now) sorted;
       within = s.within;
     }
+
+pub returns-in_err-table-clause-error : goal.returns-in_err-table-clause-error
+returns-in_err-table-clause-error g c =
+    let p = err_from_is_err_and c.from_residual-in_err-table.result
+    c.from_residual-in_err-table.ensures.1 in
+    let r = g.met.K.ReadContent.contents in
+    let s = c.in_ok-map.ensures.decoded in
+    let counted = counted_list (AreBoth g.K.ContentHash.is_value g.V.ContentHash.is_value)
+    (entry_content g.K.ContentHash.content g.V.ContentHash.content)
+    (both_nonempty g.K.ContentHash.is_value g.K.ContentHash.content g.V.ContentHash.is_value
+    g.V.ContentHash.content (λ x value. r.nonempty (g.K.ContentHash.content x) (r.covers x value)))
+    c.args.bytes.now c.args.start c.in_ok-map.end c.in_ok-map.map.entries c.requires
+    (record { valid = s.valid.1; split = s.split; within = s.within }) in
+    rw (p.1, p.2) (inr (
+      counted.0,
+      counted.1,
+      counted.2,
+      inl (is_memory c.in_err-table.field-0.0 c.in_err-table.ensures.err),
+    ))

@@ -1,10 +1,11 @@
-use Rattle.std.proofs.Common.{◌++◌, List, drop, subst, sym, ap, ◌∙◌}
+use Rattle.std.proofs.Common.{inl, inr, arith, ◌++◌, List, drop, subst, sym, ap, ◌∙◌}
 use Rattle.std.specs.List.Sorted.{IsStrictlySortedBy}
 use Rattle.std.proofs.lemmas.Result.{err_from_is_err_and}
 use Rattle.jj_content.specs.Content.{AreValues, list_content}
 use Rattle.jj_content.specs.HashTableProofs.{values_from_sorted}
 use Rattle.jj_decode.specs.Contents.{SetContents}
-use Rattle.jj_decode.proofs.ContentAt.{memory_error}
+use Rattle.jj_decode.proofs.ListItems.{counted}
+use Rattle.jj_decode.proofs.ContentAt.{memory_error, is_memory}
 use Rattle.jj_decode.proofs.AscendingItems.{ordered_count_error, ordered_decoded, ordered_list_error}
 use Rattle.jj_decode.proofs.hash_tables.HashSetReadContent.read.Goals as goal
 
@@ -53,3 +54,30 @@ returns-clause-decoded g c =
           ++ drop c.in_ok-members.end c.args.bytes.now) sorted;
       within = s.within;
     }
+
+pub returns-in_err-count-clause-error : goal.returns-in_err-count-clause-error
+returns-in_err-count-clause-error g c =
+    let p = err_from_is_err_and c.from_residual.result c.from_residual.ensures.1 in
+    rw (p.1, p.2) (inl c.in_err-count.ensures.error)
+
+pub returns-in_err-members-clause-error : goal.returns-in_err-members-clause-error
+returns-in_err-members-clause-error g c =
+    let p = err_from_is_err_and c.from_residual-in_err-members.result
+    c.from_residual-in_err-members.ensures.1 in
+    rw (p.1, p.2) (inr (
+      c.in_ok-count.count,
+      c.in_ok-count.mid,
+      counted c.in_ok-count.ensures.decoded c.in_ok-count.ensures.bounded,
+      c.in_err-members.ensures.error,
+    ))
+
+pub returns-in_err-set-clause-error : goal.returns-in_err-set-clause-error
+returns-in_err-set-clause-error g c =
+    let p = err_from_is_err_and c.from_residual-in_err-set.result
+    c.from_residual-in_err-set.ensures.1 in
+    rw (p.1, p.2) (inr (
+      c.in_ok-count.count,
+      c.in_ok-count.mid,
+      counted c.in_ok-count.ensures.decoded c.in_ok-count.ensures.bounded,
+      inl (is_memory c.in_err-set.field-0.0 c.in_err-set.ensures.err),
+    ))

@@ -1,10 +1,11 @@
-use Rattle.std.proofs.Common.{List}
+use Rattle.std.proofs.Common.{List, inl, inr, arith}
 use Rattle.std.specs.List.Sorted.{IsStrictlySortedBy}
 use Rattle.std.specs.Map.{keys_of}
 use Rattle.std.proofs.lemmas.Result.{err_from_is_err_and}
 use Rattle.jj_content.specs.Content.{entry_content}
 use Rattle.jj_decode.specs.Decoding.{AreBoth}
 use Rattle.jj_decode.specs.NonemptyProofs.{both_nonempty}
+use Rattle.jj_decode.proofs.ListItems.{counted}
 use Rattle.jj_decode.proofs.AscendingItems.{ordered_count_error, ordered_decoded, ordered_list_error}
 use Rattle.jj_decode.proofs.maps.BTreeMapReadContent.read.Goals as goal
 
@@ -43,3 +44,19 @@ returns-clause-decoded g c =
     c.in_ok-count.count c.in_ok-count.mid c.in_ok-count.ensures.decoded c.in_ok-map.map.entries
     c.in_ok-map.end c.in_ok-map.ensures.decoded in
     record { valid = s.valid; split = s.split; within = s.within }
+
+pub returns-in_err-count-clause-error : goal.returns-in_err-count-clause-error
+returns-in_err-count-clause-error g c =
+    let p = err_from_is_err_and c.from_residual.result c.from_residual.ensures.1 in
+    rw (p.1, p.2) (inl c.in_err-count.ensures.error)
+
+pub returns-in_err-map-clause-error : goal.returns-in_err-map-clause-error
+returns-in_err-map-clause-error g c =
+    let p = err_from_is_err_and c.from_residual-in_err-map.result
+    c.from_residual-in_err-map.ensures.1 in
+    rw (p.1, p.2) (inr (
+      c.in_ok-count.count,
+      c.in_ok-count.mid,
+      counted c.in_ok-count.ensures.decoded c.in_ok-count.ensures.bounded,
+      c.in_err-map.ensures.error,
+    ))

@@ -1,4 +1,4 @@
-use Rattle.std.proofs.Common.{refl}
+use Rattle.std.proofs.Common.{inl, refl}
 use Rattle.std.proofs.lemmas.Result.{err_from_is_err_and}
 use Rattle.std.specs.Prelude.{string_bytes}
 use Rattle.jj_paths.specs.Contents.{IsShortName}
@@ -22,3 +22,8 @@ returns-in-Err-clause-malformed c =
     let s = string_at c.args.bytes.now c.args.start c.in_ok-text.end c.in_ok-text.text c.in_ok-text.ensures.decoded in
     rw c.path_error.ensures (none_if_invalid IsShortName (λ _ valid. valid.1) c.args.bytes.now c.args.start text c.in_ok-text.end c.requires s
     (λ valid. not_valid (is_name text) text c.in-Err.error c.in-Err.ensures.error valid.0))
+
+pub returns-in_err-text-clause-error : goal.returns-in_err-text-clause-error
+returns-in_err-text-clause-error c =
+    let p = err_from_is_err_and c.from_residual.result c.from_residual.ensures.1 in
+    rw (p.1, p.2) (inl c.in_err-text.ensures.error)

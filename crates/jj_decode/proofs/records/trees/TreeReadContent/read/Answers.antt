@@ -1,4 +1,4 @@
-use Rattle.std.proofs.Common.{rules}
+use Rattle.std.proofs.Common.{rules, inl, inr}
 use Rattle.std.proofs.lemmas.Result.{err_from_is_err_and}
 use Rattle.jj_decode.proofs.TreeEntries.{tree_error, none_if_unsorted}
 use Rattle.jj_decode.proofs.records.trees.TreeReadContent.read.Goals as goal
@@ -16,3 +16,17 @@ pub returns-clause-decoded : goal.returns-clause-decoded
 returns-clause-decoded c =
     let s = c.in_ok-entries.ensures.decoded in
     rw c.from_sorted_entries.ensures (record { valid = (search rules, s.valid); split = s.split; within = s.within })
+
+pub returns-in_err-entries-clause-error : goal.returns-in_err-entries-clause-error
+returns-in_err-entries-clause-error c =
+    let p = err_from_is_err_and c.from_residual.result c.from_residual.ensures.1 in
+    rw (p.1, p.2) (inl c.in_err-entries.ensures.error)
+
+pub returns-then-not-are_sorted-clause-error : goal.returns-then-not-are_sorted-clause-error
+returns-then-not-are_sorted-clause-error c = inr (
+  c.in_ok-entries.entries.items,
+  c.in_ok-entries.end,
+  c.in_ok-entries.ensures.decoded,
+  search rules,
+  c.unordered_keys.ensures,
+)
