@@ -1,4 +1,4 @@
-//! Matching of many strings, with the memory of regular expressions reused.
+//! Matching of many strings with one matcher.
 ghost use Rattle.std.specs.Prelude.{◌≡◌, ◌↔◌, IsTrue, IsErr, IfOk};
 
 use crate::str_util::expression_searcher::ExpressionSearcher;
@@ -12,8 +12,7 @@ pub(crate) enum SearcherKind<'m> {
     Matcher(&'m StringMatcher),
 }
 
-/// A matcher with the state of its searches. The state of regular expressions is created at the
-/// first string and reused for the next ones; `StringMatcher::is_match` creates it at each call.
+/// A matcher for many strings, with the state of the searches for its regular expressions.
 #[derive(Drop)]
 pub struct StringSearcher<'m> {
     kind: SearcherKind<'m>,
@@ -23,8 +22,7 @@ pub struct StringSearcher<'m> {
 impl StringMatcher {
     ghost use Rattle.jj_strings.specs.Searchers.{searcher_matcher};
 
-    /// Creates a searcher. Memory is allocated at the first string, and only if the matcher
-    /// contains a regular expression.
+    /// Creates a searcher. Matching allocates only if the matcher contains a regular expression.
     pub fn searcher(&self, alloc: Global) -> StringSearcher<'_>
         ensures { searcher_matcher result ≡ self.now }
     {
