@@ -102,11 +102,20 @@ fn trailing_bytes(rt: HostRuntime) -> Result<(), Fail> {
 #[test]
 fn messages(rt: HostRuntime) -> Result<(), Fail> {
     let alloc = rt.alloc();
-    let error = DecodeError::unordered_keys(10);
-    assert_eq!(rt;
-        error.to_string(alloc)?.as_str(),
-        "at 10: keys do not ascend"
-    );
+    for (reason, expected) in [
+        (Malformation::Truncated, "at 10: truncated"),
+        (Malformation::UnknownTag, "at 10: unknown tag"),
+        (Malformation::InvalidUtf8, "at 10: string is not UTF-8"),
+        (Malformation::UnorderedKeys, "at 10: keys do not ascend"),
+        (Malformation::InvalidValue, "at 10: invalid value"),
+        (
+            Malformation::TrailingBytes,
+            "at 10: unexpected bytes after the value",
+        ),
+    ] {
+        let error = DecodeError::Malformed { reason, offset: 10 };
+        assert_eq!(rt; error.to_string(alloc)?.as_str(), expected);
+    }
     assert_eq!(rt;
         DecodeError::Memory.to_string(alloc)?.as_str(),
         "out of memory"
