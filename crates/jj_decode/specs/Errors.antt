@@ -15,7 +15,7 @@ use Rattle.jj_decode.specs.declared.error.DecodeError.TheVariants.{Memory, Malfo
 use Rattle.jj_decode.specs.declared.error.Malformation.TheVariants.{Truncated, UnknownTag, InvalidUtf8, UnorderedKeys, InvalidValue, TrailingBytes}
 use Rattle.jj_decode.specs.Decoding.{IsContentAt, AreItems, AreBoth, AreEntries, AreMembers, IsGreater, FitsLength, IsString}
 
--- ---- parts without parts
+-- ---- values without parts
 
 abbrev pub NoErrors : List ℕ → ℕ → DecodeError → Type 0
 NoErrors bytes start e = ⊥

@@ -1,13 +1,12 @@
 -- Results of decoding, from the errors of the type.
-use Rattle.std.proofs.Common.{◌≡◌, ◌≢◌, ℕ, ◌+◌, ◌<◌, ◌≤◌, ◌^◌, ◌⊎◌, inl, inr, List, [], ◌∷◌, ◌++◌, length, drop, Bool, true, false, Result, Ok, Err, refl, sym, ap, ◌∙◌, arith}
+use Rattle.std.proofs.Common.{◌≡◌, ℕ, ◌+◌, ◌<◌, ◌≤◌, ◌^◌, inl, inr, List, [], ◌∷◌, ◌++◌, length, drop, Bool, true, false, Result, Ok, Err, refl, sym, ap, ◌∙◌, arith}
 use Rattle.std.specs.Prelude.{IfOk, IfErr, ⊤}
 use Rattle.std.specs.List.{flat_map}
 use Rattle.std.proofs.lemmas.List.{length-append}
 use Rattle.jj_content.specs.Content.{u64_content, bool_content, list_content}
 use Rattle.jj_decode.specs.declared.error.DecodeError.{DecodeError}
-use Rattle.jj_decode.specs.declared.error.DecodeError.TheVariants.{Memory, Malformed}
+use Rattle.jj_decode.specs.declared.error.DecodeError.TheVariants.{Malformed}
 use Rattle.jj_decode.specs.declared.error.Malformation.TheVariants.{Truncated, UnknownTag}
-use Rattle.jj_decode.specs.Decoding.{IsContentAt}
 use Rattle.jj_decode.specs.Errors.{BoolErrors, BothErrors, CountedErrors, IntegerErrors, WholeErrors}
 use Rattle.jj_decode.proofs.ContentAt.{end_is}
 use Rattle.jj_decode.proofs.IntegerBytes.{u64_length}

@@ -1,4 +1,4 @@
-use Rattle.std.proofs.Common.{inl, inr, arith}
+use Rattle.std.proofs.Common.{inl, inr}
 use Rattle.std.proofs.lemmas.Result.{err_from_is_err_and}
 use Rattle.jj_decode.proofs.ListItems.{counted, contents_count_error, contents_list_error, list_decoded}
 use Rattle.jj_decode.proofs.lists.read_list.Goals as goal

@@ -1,4 +1,4 @@
-use Rattle.std.proofs.Common.{List, inl, inr, arith}
+use Rattle.std.proofs.Common.{List, inl, inr}
 use Rattle.std.specs.List.Sorted.{IsStrictlySortedBy}
 use Rattle.std.specs.Map.{keys_of}
 use Rattle.std.proofs.lemmas.Result.{err_from_is_err_and}
