@@ -3,5 +3,6 @@ pub mod Commits
 pub mod HistoryItems
 pub mod ReadResults
 pub mod FoundAncestors
+pub mod HeadsFirst
 pub mod LogOrders
 pub mod LogErrors

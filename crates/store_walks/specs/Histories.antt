@@ -1,8 +1,8 @@
 -- The history of a store: its commits, with an edge from each to its parents.
 -- Cited by contracts of public items: AreFoundAncestors, AreHeadCommits, AreMergeBases,
--- IsErrorBelow, IsGreatestHistoryOrder, IsGroupedHistory, IsHistoryError, IsHistoryOrder,
--- IsReadErrorBelow.
-use Rattle.std.specs.Prelude.{◌≡◌, ◌≢◌, ◌⊎◌, ℕ, List, All, AllPairs, None, Result, Some, map}
+-- InEachHistory, IsErrorBelow, IsGreatestHistoryOrder, IsGroupedHistory, IsHistoryError,
+-- IsHistoryOrder, IsReadErrorBelow, TakesGreatestHeads.
+use Rattle.std.specs.Prelude.{◌≡◌, ◌≢◌, ◌⊎◌, ◌∷◌, ◌++◌, ℕ, List, All, AllPairs, None, Result, Some, map}
 use Rattle.std.specs.Cmp.Lexicographic.{slice_cmp}
 use Rattle.std.specs.List.{Contains}
 use Rattle.std.specs.Ordering.{nat_cmp}
@@ -14,7 +14,7 @@ use Rattle.jj_backend.specs.Records.{CommitValue}
 use Rattle.jj_backend.specs.declared.backend.errors.BackendError.{BackendError}
 use Rattle.jj_backend.specs.declared.backend.errors.BackendError.TheVariants.{Memory}
 use Rattle.jj_dag.specs.FallibleGraphs.{ok_items}
-use Rattle.jj_dag.specs.NodeGraph.{AreMaximalNodes, HasNoCommonNodeCycle, IsChildFirstOrder, IsCommonNode, IsGreatestChildFirstOrder, NodeGraph, ReachesNoCycle, ReachesNode, ReachesSomeCycle}
+use Rattle.jj_dag.specs.NodeGraph.{AreMaximalNodes, HasNoCommonNodeCycle, IsChildFirstOrder, IsCommonNode, IsGreatestChildFirstOrder, IsMaximalNode, NodeGraph, ReachesNoCycle, ReachesNode, ReachesSomeCycle}
 use Rattle.jj_walks.specs.GroupedOrders.{IsGroupedOrder}
 use Rattle.store_walks.specs.Logs.{log_nodes}
 use Rattle.store_walks.specs.ReadCommits.{IsReadError, IsReadFailure, IsStored, id_of}
@@ -59,6 +59,14 @@ module _ (store : Objects) where
   abbrev pub IsGreatestHistoryOrder : List (List ℕ) → List ReadCommit → Type 0
   IsGreatestHistoryOrder ids order = InEachHistory (λ parents. IsGreatestChildFirstOrder
       (λ a b. slice_cmp nat_cmp a b ≡ Less) parents ids (map id_of order))
+
+  -- each id is the greatest, byte by byte, of the heads of itself and those after it: of those that
+  -- are no proper ancestor of another one of them
+  abbrev pub TakesGreatestHeads : List (List ℕ) → Type 0
+  TakesGreatestHeads order = InEachHistory (λ parents. (prefix rest : List (List ℕ))
+      (id head : List ℕ) → order ≡ prefix ++ id ∷ rest
+      → IsMaximalNode parents (Contains (id ∷ rest)) head → head ≢ id
+      → slice_cmp nat_cmp head id ≡ Less)
 
   -- a child-first order with branches together: each commit is followed by the last of its parents
   -- whose children all came before, if one is
