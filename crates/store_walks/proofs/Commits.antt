@@ -1,7 +1,6 @@
 -- Closures that read commits of a store implement each history that agrees with the store.
 use Rattle.std.proofs.Common.{◌≡◌, ℕ, suc, ◌==◌, Bool, true, false, not, cond, List, [], ◌∷◌, ◌++◌, get_or, map, Option, Some, None, Result, Ok, Err, IfOk, refl, sym, ◌∙◌, ap, subst, true≢false, inl, inr, arith}
 use Rattle.std.specs.Prelude.{All, IfErr}
-use Rattle.std.specs.Bool.{one_answer}
 use Rattle.std.specs.Cmp.Lexicographic.{nat_list_cmp_total, slice_cmp}
 use Rattle.std.specs.Ordering.{is_eq, nat_cmp}
 use Rattle.std.specs.Str.{bytes_eq}
@@ -11,13 +10,9 @@ use Rattle.std.specs.List.{Contains}
 use Rattle.std.specs.declared.alloc.AllocError.{AllocError}
 use Rattle.std.specs.declared.cmp.Ordering.TheVariants.{Less}
 use Rattle.std.specs.declared.vec.Vec.{Vec}
-use Rattle.std.specs.declared.vec.IntoIter.{IntoIter}
-use Rattle.std.proofs.lemmas.Bool.Decides.{Decides-eqb}
 use Rattle.std.proofs.lemmas.Fn.{always_returns_same}
 use Rattle.std.proofs.lemmas.Iterator.{YieldsList}
-use Rattle.std.proofs.lemmas.Iterator.Adapters.{YieldsList-from_vec}
-use Rattle.std.specs.Vec.Iter.{into_iter_items, into_iter_len, into_iter_steps}
-use Rattle.std.proofs.lemmas.List.{get_or-map, length-map, map-append, map-id}
+use Rattle.std.proofs.lemmas.List.{get_or-map, length-map, map-append}
 use Rattle.std.proofs.lemmas.List.Elements.{All-contains}
 use Rattle.std.proofs.lemmas.Map.Text.{is_eq-slice_cmp}
 use Rattle.std.proofs.lemmas.Slice.Eq.{bytes_eq-Decides}
@@ -28,17 +23,14 @@ use Rattle.jj_backend.specs.Records.{CommitValue, commit_eq}
 use Rattle.jj_backend.specs.declared.backend.errors.BackendError.{BackendError}
 use Rattle.jj_dag.specs.ClosureGraph.{Implements, MayReturn, ReturnsId, YieldsOk}
 use Rattle.jj_dag.specs.CommonNodes.{AreClosestCommon, HasNoCommonCycle}
-use Rattle.jj_dag.specs.FallibleGraphs.{BeginsWith}
 use Rattle.jj_dag.specs.Graph.{Graph, IsAcyclicFrom, IsTopologicalOrder, ReachedFrom}
 use Rattle.jj_dag.specs.GreatestOrder.{IsGreatestOrder}
 use Rattle.jj_dag.specs.NodeGraph.{IsGreatestChildFirstOrder, AreMaximalNodes, HasNoCommonNodeCycle, IsChildFirstOrder, IsCommonNode, ReachesNoCycle, ReachesNode}
 use Rattle.jj_dag.specs.Walk.{DrainsTo, GraphModel}
 use Rattle.jj_dag.proofs.ClosureGraphs.{may_return_says}
-use Rattle.jj_dag.proofs.FailingWalks.{begun_are}
 use Rattle.jj_dag.proofs.GreatestOrders.{greatest_nodes, less_back}
-use Rattle.jj_dag.proofs.ListNumbers.{list_of_number, list_of_number-number, number, number-not_zero}
+use Rattle.jj_dag.proofs.ListNumbers.{list_of_number, list_of_number-number, number}
 use Rattle.jj_dag.proofs.NodeGraphs.{Contains-from_map, child_first_nodes, closest_nodes, no_common_cycle_up, no_cycle_back, numbers_graph, one_node, reached_down, reaches_more}
-use Rattle.jj_dag.proofs.Walking.{drained_are}
 use Rattle.jj_walks.proofs.Callers.{drained, implements_by, number_eq, number_is_node}
 use Rattle.store_walks.specs.Histories.{Completes, InEachHistory, IsErrorBelow, Parents}
 use Rattle.store_walks.specs.ReadCommits.{AreParentIds, IsErrorOfIds, IsReadError, IsStored, id_of}
@@ -187,7 +179,7 @@ module _ (may_fail : BackendError → Type 0) (store : Objects) where
       (subst (ReachesNode parents ids) same r.2, known.1)
 
   -- and so is each of its parents
-  parent_reached : (parents : Parents) → Completes store parents → (ids : List (List ℕ)) (x : ReadCommit) (id : List ℕ) → ReachedFrom (id_graph parents) (map number ids) (node_of x) → Contains x.commit.parents id
+  pub parent_reached : (parents : Parents) → Completes store parents → (ids : List (List ℕ)) (x : ReadCommit) (id : List ℕ) → ReachedFrom (id_graph parents) (map number ids) (node_of x) → Contains x.commit.parents id
       → ReachesNode parents ids id
   parent_reached parents complete ids x id reached inside =
       let k = node_reached parents ids x reached in

@@ -1,9 +1,10 @@
 -- A depth-first walk over reads of a store finds the ancestors of the ids that can be read.
-use Rattle.std.proofs.Common.{◌≡◌, ◌≢◌, inl, inr, ℕ, zero, suc, ◌==◌, not, true, Option, None, Some, Result, Ok, Err, List, [], ◌∷◌, map, refl, sym, ◌∙◌, ap, subst, arith, eqb, ⊎_elim}
-use Rattle.std.specs.Prelude.{AllPairs}
+use Rattle.std.proofs.Common.{◌≡◌, ◌≢◌, inl, inr, ℕ, zero, suc, ◌==◌, not, true, Option, None, Some, Result, Ok, Err, List, [], ◌∷◌, map, reverse, refl, sym, ◌∙◌, ap, subst, arith, eqb, ⊎_elim}
+use Rattle.std.specs.Prelude.{AllPairs, filter_map}
 use Rattle.std.specs.Fn.{Called, Mut, Shared}
 use Rattle.std.specs.Iterator.{YieldsFirst}
 use Rattle.std.specs.List.{Contains, IsDistinct}
+use Rattle.std.specs.Result.{result_err}
 use Rattle.std.specs.Str.{bytes_eq}
 use Rattle.std.specs.declared.alloc.AllocError.{AllocError}
 use Rattle.std.proofs.lemmas.Bool.Decides.{Decides-eqb}
@@ -14,27 +15,31 @@ use Rattle.std.proofs.lemmas.Map.Made.{AllPairs-from_IsDistinct}
 use denote.Ref.{Bor}
 use Rattle.jj_backend.specs.Objects.{Objects}
 use Rattle.jj_backend.specs.declared.backend.errors.BackendError.{BackendError}
+use Rattle.jj_backend.specs.declared.backend.errors.BackendError.TheVariants.{Memory}
 use Rattle.jj_dag.specs.ClosureGraph.{ReturnsId}
-use Rattle.jj_dag.specs.FallibleGraphs.{ok_items}
+use Rattle.jj_dag.specs.FallibleGraphs.{FalliblePreorder, ok_items}
 use Rattle.jj_dag.specs.Graph.{ReachedFrom}
-use Rattle.jj_dag.specs.NodeGraph.{NodePath}
+use Rattle.jj_dag.specs.NodeGraph.{ReachesNode}
 use Rattle.jj_dag.specs.Walk.{AreNodes, DrainsTo}
 use Rattle.jj_dag.proofs.ClosureGraphs.{may_return_says}
 use Rattle.jj_dag.proofs.FailingWalks.{Contains-from_ok_items, Contains-ok_items}
 use Rattle.jj_dag.proofs.ListNumbers.{list_of_number, list_of_number-number, number}
 use Rattle.jj_dag.proofs.NodeGraphs.{Contains-map, one_node}
 use Rattle.jj_dag.proofs.Walking.{drained_are}
-use Rattle.jj_walks.specs.Expansions.{Expansion, ImplementsItems, IsRun, MayList, item_of}
-use Rattle.jj_walks.proofs.Expanding.{at_first, first_or_rest, in_map, in_rest, numbered_back}
-use Rattle.jj_walks.proofs.DfsOkRuns.{expansion_of, error_index, errors_given, yielded_of, yielded_once, items_yielded, reached, returned, start_errors_given, starts_given}
-use Rattle.store_walks.specs.Histories.{AreFoundAncestors, Completes, IsErrorBelow, IsFoundOrFailed, Parents, found_ids}
-use Rattle.store_walks.specs.ReadCommits.{IsStored, id_of}
+use Rattle.jj_walks.specs.Expansions.{Expansion, ImplementsItems, IsRun, MayList, expansions_graph, item_of}
+use Rattle.jj_walks.proofs.Expanding.{at_first, first_or_rest, in_map, in_rest, in_reverse, numbered_back}
+use Rattle.jj_walks.proofs.Preorders.{FalliblePreorder-closed, FalliblePreorder-error, FalliblePreorder-gives, from_reverse}
+use Rattle.jj_walks.proofs.DfsOkRuns.{expansion_of, errors_given, yielded_of, yielded_once, items_yielded, reached, returned, start_errors_given, starts_given}
+use Rattle.store_walks.specs.Histories.{AreFoundAncestors, Completes, InEachHistory, IsRead, Parents, found_errors, found_ids}
+use Rattle.store_walks.specs.ReadCommits.{IsReadFailure, IsStored, id_of}
 use Rattle.store_walks.specs.ReadResults.{AreReads, reads_left}
 use Rattle.store_walks.specs.declared.read_commit.ReadCommit.{ReadCommit}
 use Rattle.store_walks.specs.declared.reads.Reads.{Reads}
 use Rattle.jj_walks.proofs.Callers.{number_is_node}
-use Rattle.store_walks.proofs.Commits.{error_at, error_below, id_graph, implements_commits, known_node, listed_commits, node_of, node_reached, stored_node, walk_of}
-use Rattle.store_walks.proofs.ReadResults.{Item, reads_each, reads_errors, reads_sound, reads_stored, reads_whole}
+use Rattle.store_walks.proofs.Commits.{id_graph, implements_commits, known_node, listed_commits, node_of, node_reached, parent_reached, stored_node, walk_of}
+use Rattle.store_walks.proofs.FailedReads.{Failure, Labelled, covered, errors_numbered, errors_plain, failures_in, from_failures, graph_plain, labelled_at, labelled_from, labelled_graph, labels, labels_failed, labels_plain}
+use Rattle.store_walks.proofs.LabelledRuns.{labelled, plain, plain_in, plain_reverse}
+use Rattle.store_walks.proofs.ReadResults.{Item, reads_sound, reads_stored, reads_whole}
 
 abbrev becomes : Reads → Reads → Type 0
 becomes s t = t ≡ s
@@ -57,7 +62,7 @@ sound_in (Ok y ∷ xs) x (suc k, lt, e) = in_rest y (ok_items xs) x (sound_in xs
 sound_in (Err y ∷ xs) x (zero, lt, e) = cc
 sound_in (Err y ∷ xs) x (suc k, lt, e) = sound_in xs x (k, omega arith, e)
 
-id_back : (xs : List ReadCommit) (id : List ℕ) → Contains (map id_of xs) id → (x : ReadCommit) × Contains xs x × (x.id ≡ id)
+pub id_back : (xs : List ReadCommit) (id : List ℕ) → Contains (map id_of xs) id → (x : ReadCommit) × Contains xs x × (x.id ≡ id)
 id_back [] id h = absurd (omega (arith, h.1))
 id_back (x ∷ xs) id h =
     ⊎_elim (λ here. (x, at_first x xs, here)) (λ there. let q = id_back xs id there in (q.0, in_rest x xs q.0 q.1, q.2)) (first_or_rest x.id (map id_of xs) id h)
@@ -151,51 +156,96 @@ module _ (may_fail : BackendError → Type 0) (store : Objects) where
           let same : back.0.id ≡ id = one_node known_parents number list_of_number list_of_number-number back.0.id id (sym (stored_node may_fail store back.0 (found_stored back.0 back.1)) ∙ back.2) in
           subst (λ (y : List ℕ). Contains (found_ids found) y) same (in_map id_of (ok_items found) back.0 (sound_in found back.0 back.1))
 
-      found_or_failed : (names : List (List ℕ)) (items : List Item) → AreReads may_fail store names items → ((y : Item) → Contains items y → Contains (numbers found) (item_of node y))
-          → ((e : BackendError) → Contains items (Err e) → Contains found (Err e)) → (id : List ℕ) → Contains names id → IsFoundOrFailed store may_fail found id
-      found_or_failed names items k given failed id h =
+      -- the run with the id of each failed read
+      implemented : ImplementsItems (walk_of may_fail store known_parents) bytes_eq ids lists yields id_fn neighbors_fn
+      implemented = items_implemented known_parents known_completes
+
+      run_labelled : (out : List Labelled) × FalliblePreorder (labelled_graph may_fail store run.expansions) (reverse (labels may_fail store all starts)) [] out × (map plain out ≡ numbers found)
+      run_labelled = labelled (expansions_graph node run.expansions) (labelled_graph may_fail store run.expansions) (graph_plain may_fail store run.expansions) (reverse (numbers starts)) [] (numbers found)
+          (run.preorder (walk_of may_fail store known_parents) implemented (start_nodes known_parents)).1
+          (reverse (labels may_fail store all starts)) [] (plain_reverse (labels may_fail store all starts) ∙ ap reverse (labels_plain may_fail store all starts)) refl
+
+      failures_of : List Failure
+      failures_of = filter_map result_err run_labelled.0
+
+      errors_are : map (λ (f : Failure). f.1) failures_of ≡ found_errors found
+      unfolding failures_of
+      errors_are = errors_plain run_labelled.0 ∙ ap (filter_map result_err) run_labelled.2 ∙ errors_numbered node found
+
+      expansion_reads : (x : Expansion ReadCommit BackendError) → Contains run.expansions x → AreReads may_fail store x.node.commit.parents x.items
+      expansion_reads x own = answered_reads x (returned bytes_eq ids lists yields id_fn neighbors_fn starts found run (walk_of may_fail store known_parents) implemented (start_nodes known_parents) x own)
+
+      failed_read : (id : List ℕ) (e : BackendError) → Contains failures_of (id, e) → IsReadFailure may_fail store e id × InEachHistory store (λ parents. ReachesNode parents all id)
+      unfolding failures_of
+      failed_read id e h =
+          ⊎_elim (λ none. absurd (omega (arith, none.1)))
+          (λ later.
+          ⊎_elim (λ queued.
+          let k = labels_failed may_fail store all starts start_reads id e (from_reverse (labels may_fail store all starts) (Err (id, e)) queued) in
+          (k.1, λ parents complete. (id, k.0, (0, refl))))
+          (λ (a, at, listed).
+          let (x, own, is, inside) = labelled_from may_fail store run.expansions a (Err (id, e)) listed in
+          let k = labels_failed may_fail store x.node.commit.parents x.items (expansion_reads x own) id e inside in
+          let yielded = yielded_of bytes_eq ids lists yields id_fn neighbors_fn starts found run (walk_of may_fail store known_parents) implemented (start_nodes known_parents) x own in
+          (k.1, λ parents complete. parent_reached may_fail store parents complete all x.node id (commit_reached parents complete x.node yielded) k.0)) later)
+          (FalliblePreorder-error (labelled_graph may_fail store run.expansions) (reverse (labels may_fail store all starts)) [] run_labelled.0 run_labelled.1 (id, e) (from_failures run_labelled.0 (id, e) h))
+
+      -- a commit that was read is found
+      read_found : (c : ReadCommit) (id : List ℕ) → IsStored store c → c.id ≡ id → Contains (numbers found) (Ok (node c)) → Contains (found_ids found) id
+      read_found c id stored same at = id_found id (subst (λ (n : ℕ). Contains (numbers found) (Ok n)) (stored_node may_fail store c stored ∙ ap number same) at)
+
+      start_found : (id : List ℕ) → Contains all id → IsRead store may_fail found failures_of id
+      unfolding failures_of
+      start_found id h =
           ⊎_elim (λ (c, at, same).
-          inl (id_found id (subst (λ (n : ℕ). Contains (numbers found) (Ok n)) (stored_node may_fail store c (reads_sound may_fail store names items k c at).1 ∙ ap number same) (given (Ok c) at))))
-          (λ (e, at, fails). inr (e, failed e at, fails)) (reads_each may_fail store names items k id h)
+          inl (read_found c id (reads_sound may_fail store all starts start_reads c at).1 same
+          (starts_given bytes_eq ids lists yields id_fn neighbors_fn starts found run (walk_of may_fail store known_parents) implemented (start_nodes known_parents) (Ok c) at)))
+          (λ other.
+          ⊎_elim (λ (e, at).
+          inr (inl (e, failures_in run_labelled.0 (id, e) (FalliblePreorder-gives (labelled_graph may_fail store run.expansions) (reverse (labels may_fail store all starts)) [] run_labelled.0 run_labelled.1 (Err (id, e)) (in_reverse (labels may_fail store all starts) (Err (id, e)) at)))))
+          (λ memory. inr (inr (start_errors_given bytes_eq ids lists yields id_fn neighbors_fn starts found run (walk_of may_fail store known_parents) implemented (start_nodes known_parents) Memory memory))) other)
+          (covered may_fail store all starts start_reads id h)
 
-      start_found : (id : List ℕ) → Contains all id → IsFoundOrFailed store may_fail found id
-      start_found id h = found_or_failed all starts start_reads (λ y at. starts_given bytes_eq ids lists yields id_fn neighbors_fn starts found run (walk_of may_fail store known_parents) (items_implemented known_parents known_completes) (start_nodes known_parents) y at) (λ e at. start_errors_given bytes_eq ids lists yields id_fn neighbors_fn starts found run (walk_of may_fail store known_parents) (items_implemented known_parents known_completes) (start_nodes known_parents) e at) id h
+      -- commits of one node are equal
+      one_commit : (c d : ReadCommit) → IsStored store c → IsStored store d → node c ≡ node d → c.commit.parents ≡ d.commit.parents
+      one_commit c d stored stored2 same =
+          let id : c.id ≡ d.id = one_node known_parents number list_of_number list_of_number-number c.id d.id (sym (stored_node may_fail store c stored) ∙ same ∙ stored_node may_fail store d stored2) in
+          sym (known_completes c.id c.commit stored) ∙ ap known_parents id ∙ known_completes d.id d.commit stored2
 
-      parent_found : (c : ReadCommit) (id : List ℕ) → Contains found (Ok c) → Contains c.commit.parents id → IsFoundOrFailed store may_fail found id
+      parent_found : (c : ReadCommit) (id : List ℕ) → Contains found (Ok c) → Contains c.commit.parents id → IsRead store may_fail found failures_of id
+      unfolding failures_of
       parent_found c id at inside =
-          let own = expansion_of bytes_eq ids lists yields id_fn neighbors_fn starts found run (walk_of may_fail store known_parents) (items_implemented known_parents known_completes) (start_nodes known_parents) c at in
-          found_or_failed own.0.node.commit.parents own.0.items (answered_reads own.0 (returned bytes_eq ids lists yields id_fn neighbors_fn starts found run (walk_of may_fail store known_parents) (items_implemented known_parents known_completes) (start_nodes known_parents) own.0 own.1))
-          (λ y h. items_yielded bytes_eq ids lists yields id_fn neighbors_fn starts found run (walk_of may_fail store known_parents) (items_implemented known_parents known_completes) (start_nodes known_parents) own.0 own.1 y h) (λ e h. errors_given bytes_eq ids lists yields id_fn neighbors_fn starts found run (walk_of may_fail store known_parents) (items_implemented known_parents known_completes) (start_nodes known_parents) own.0 own.1 e h) id (subst (λ (x : ReadCommit). Contains x.commit.parents id) (sym own.2) inside)
-
-      error_cause : (e : BackendError) → Contains found (Err e) → IsErrorBelow store may_fail all e
-      error_cause e h =
-          ⊎_elim (λ start. error_at may_fail store all all e (λ id inside. inside) (reads_errors may_fail store all starts start_reads e start))
-          (λ (x, own, inside).
-          error_below may_fail store all x.node e
-          (λ parents complete. commit_reached parents complete x.node (yielded_of bytes_eq ids lists yields id_fn neighbors_fn starts found run (walk_of may_fail store known_parents) (items_implemented known_parents known_completes) (start_nodes known_parents) x own))
-          (reads_errors may_fail store x.node.commit.parents x.items (answered_reads x (returned bytes_eq ids lists yields id_fn neighbors_fn starts found run (walk_of may_fail store known_parents) (items_implemented known_parents known_completes) (start_nodes known_parents) x own)) e inside))
-          (error_index bytes_eq ids lists yields id_fn neighbors_fn starts found run (walk_of may_fail store known_parents) (items_implemented known_parents known_completes) (start_nodes known_parents) e h)
-
-      -- without an error all commits on a path from a found one are found
-      path_found : ((e : BackendError) → Contains found (Err e) → ⊥) → (parents : Parents) → Completes store parents → (n : ℕ) (a b : List ℕ) → Contains (found_ids found) a → NodePath parents a b n → Contains (found_ids found) b
-      path_found none parents complete zero a b h same = subst (λ (y : List ℕ). Contains (found_ids found) y) same h
-      path_found none parents complete (suc n) a b h (c, edge, rest) =
-          let back = id_back (ok_items found) a h in
-          let at = Contains-from_ok_items found back.0 back.1 in
-          let listed : parents a ≡ back.0.commit.parents = ap parents (sym back.2) ∙ complete back.0.id back.0.commit (found_stored back.0 at) in
-          let inside : Contains back.0.commit.parents c = subst (λ (l : List (List ℕ)). Contains l c) listed edge in
-          ⊎_elim (λ here. path_found none parents complete n c b here rest) (λ (e, failed, fails). absurd (none e failed)) (parent_found back.0 c at inside)
+          let own = expansion_of bytes_eq ids lists yields id_fn neighbors_fn starts found run (walk_of may_fail store known_parents) implemented (start_nodes known_parents) c at in
+          let (y, in_run, same_node, is) = labelled_at may_fail store run.expansions own.0 own.1 in
+          let n = node own.0.node in
+          let yielded = yielded_of bytes_eq ids lists yields id_fn neighbors_fn starts found run (walk_of may_fail store known_parents) implemented (start_nodes known_parents) y in_run in
+          let same_parents : y.node.commit.parents ≡ c.commit.parents = one_commit y.node c (found_stored y.node yielded) (found_stored c at) (same_node ∙ ap node own.2) in
+          let in_out : Contains run_labelled.0 (Ok n) =
+          plain_in run_labelled.0 n (subst (λ (l : List (Result ℕ BackendError)). Contains l (Ok n)) (sym run_labelled.2) (subst (λ (z : ℕ). Contains (numbers found) (Ok z)) (ap node (sym own.2)) (in_map (item_of node) found (Ok c) at))) in
+          ⊎_elim (λ (d, given, same).
+          inl (read_found d id (reads_sound may_fail store y.node.commit.parents y.items (expansion_reads y in_run) d given).1 same
+          (items_yielded bytes_eq ids lists yields id_fn neighbors_fn starts found run (walk_of may_fail store known_parents) implemented (start_nodes known_parents) y in_run (Ok d) given)))
+          (λ other.
+          ⊎_elim (λ (e, given).
+          inr (inl (
+            e,
+            failures_in run_labelled.0 (id, e)
+                (⊎_elim (λ none. absurd (omega (arith, none.1))) (λ closed. closed (Err (id, e)) (subst (λ (l : List Labelled). Contains l (Err (id, e))) (sym is) given))
+                (FalliblePreorder-closed (labelled_graph may_fail store run.expansions) (reverse (labels may_fail store all starts)) [] run_labelled.0 run_labelled.1 n in_out)),
+          )))
+          (λ memory. inr (inr (errors_given bytes_eq ids lists yields id_fn neighbors_fn starts found run (walk_of may_fail store known_parents) implemented (start_nodes known_parents) y in_run Memory memory))) other)
+          (covered may_fail store y.node.commit.parents y.items (expansion_reads y in_run) id (subst (λ (l : List (List ℕ)). Contains l id) (sym same_parents) inside))
 
       are_found_ancestors : AreFoundAncestors store may_fail all found
       are_found_ancestors = record {
         stored = found_stored;
         reached = λ c at parents complete. (node_reached may_fail store parents all c (commit_reached parents complete c at)).0;
-        once = distinct_ids (found_ids found) (subst (λ (l : List ℕ). IsDistinct eqb l) (stored_numbers found found_stored) (yielded_once bytes_eq ids lists yields id_fn neighbors_fn starts found run (walk_of may_fail store known_parents) (items_implemented known_parents known_completes) (start_nodes known_parents)));
-        errors = error_cause;
+        once = distinct_ids (found_ids found) (subst (λ (l : List ℕ). IsDistinct eqb l) (stored_numbers found found_stored) (yielded_once bytes_eq ids lists yields id_fn neighbors_fn starts found run (walk_of may_fail store known_parents) implemented (start_nodes known_parents)));
+        failures = failures_of;
+        errors = errors_are;
+        failed = failed_read;
         starts_read = start_found;
         parents_read = parent_found;
-        all = λ none parents complete id (a, from, (n, path)).
-            ⊎_elim (λ here. path_found none parents complete n a id here path) (λ (e, failed, fails). absurd (none e failed)) (start_found a from);
       }
 
   -- the items of a run are the ancestors found

@@ -2,7 +2,10 @@ pub mod SameCommits
 pub mod Commits
 pub mod HistoryItems
 pub mod ReadResults
+pub mod LabelledRuns
+pub mod FailedReads
 pub mod FoundAncestors
+pub mod PartedAncestors
 pub mod HeadsFirst
 pub mod LogOrders
 pub mod LogErrors

@@ -1,11 +1,12 @@
 -- The history of a store: its commits, with an edge from each to its parents.
 -- Cited by contracts of public items: AreFoundAncestors, AreHeadCommits, AreMergeBases,
--- InEachHistory, IsErrorBelow, IsGreatestHistoryOrder, IsGroupedHistory, IsHistoryError,
--- IsHistoryOrder, IsReadErrorBelow, TakesGreatestHeads.
-use Rattle.std.specs.Prelude.{◌≡◌, ◌≢◌, ◌⊎◌, ◌∷◌, ◌++◌, ℕ, List, All, AllPairs, None, Result, Some, map}
+-- AreReadableAncestors, InEachHistory, IsErrorBelow, IsGreatestHistoryOrder, IsGroupedHistory,
+-- IsHistoryError, IsHistoryOrder, IsReadErrorBelow, TakesGreatestHeads.
+use Rattle.std.specs.Prelude.{◌≡◌, ◌≢◌, ◌⊎◌, ◌∷◌, ◌++◌, ℕ, List, All, AllPairs, None, Result, Some, filter_map, map}
 use Rattle.std.specs.Cmp.Lexicographic.{slice_cmp}
-use Rattle.std.specs.List.{Contains}
+use Rattle.std.specs.List.{AllZip, Contains}
 use Rattle.std.specs.Ordering.{nat_cmp}
+use Rattle.std.specs.Result.{result_err}
 use Rattle.std.specs.Str.{bytes_eq}
 use Rattle.std.specs.declared.cmp.Ordering.TheVariants.{Less}
 use Rattle.std.specs.declared.result.Result.TheVariants.{Ok, Err}
@@ -95,25 +96,50 @@ module _ (store : Objects) where
 abbrev pub found_ids : List (Result ReadCommit BackendError) → List (List ℕ)
 found_ids found = map id_of (ok_items found)
 
-module _ (store : Objects) (may_fail : BackendError → Type 0) where
-  -- the commit was found, or an error of reading it
-  abbrev pub IsFoundOrFailed : List (Result ReadCommit BackendError) → List ℕ → Type 0
-  IsFoundOrFailed found id = Contains (found_ids found) id
-      ⊎ ((e : BackendError) × Contains found (Err e) × IsReadFailure may_fail store e id)
+-- the errors among the results, in their order
+abbrev pub found_errors : List (Result ReadCommit BackendError) → List BackendError
+found_errors found = filter_map result_err found
 
-  -- The commits found are ancestors of the ids, as the store has them, each once, and each error is
-  -- one of reading an ancestor. The ids and the parents of each commit found were read. Without an
-  -- error these are all ancestors.
+module _ (store : Objects) (may_fail : BackendError → Type 0) where
+  -- The walk reached the id. It was read: its commit was found, or a read of this id failed; else
+  -- memory ran out before.
+  abbrev pub IsRead : List (Result ReadCommit BackendError) → List (List ℕ × BackendError) → List ℕ
+      → Type 0
+  IsRead found failures id = Contains (found_ids found) id
+      ⊎ (((e : BackendError) × Contains failures (id, e)) ⊎ Contains found (Err Memory))
+
+  -- The commits found are ancestors of the ids, as the store has them, each once. The errors are
+  -- those of failed reads of ancestors, one of each. The ids and the parents of each commit found
+  -- were read.
   pub record AreFoundAncestors (ids : List (List ℕ)) (found : List (Result ReadCommit BackendError))
       : Type 0 where
     pub stored : (c : ReadCommit) → Contains found (Ok c) → IsStored store c
     pub reached : (c : ReadCommit) → Contains found (Ok c)
         → InEachHistory store (λ parents. ReachesNode parents ids c.id)
     pub once : AllPairs (λ a b. a ≢ b) (found_ids found)
-    pub errors : (e : BackendError) → Contains found (Err e) → IsErrorBelow store may_fail ids e
-    pub starts_read : (id : List ℕ) → Contains ids id → IsFoundOrFailed found id
+    -- the reads that failed: the id and the error
+    pub failures : List (List ℕ × BackendError)
+    pub errors : map (λ failure. failure.1) failures ≡ found_errors found
+    pub failed : (id : List ℕ) (e : BackendError) → Contains failures (id, e)
+        → IsReadFailure may_fail store e id
+        × InEachHistory store (λ parents. ReachesNode parents ids id)
+    pub starts_read : (id : List ℕ) → Contains ids id → IsRead found failures id
     pub parents_read : (c : ReadCommit) (id : List ℕ) → Contains found (Ok c)
-        → Contains c.commit.parents id → IsFoundOrFailed found id
-    pub all : ((e : BackendError) → Contains found (Err e) → ⊥)
-        → InEachHistory store (λ parents. (id : List ℕ) → ReachesNode parents ids id
-        → Contains (found_ids found) id)
+        → Contains c.commit.parents id → IsRead found failures id
+
+  -- The commits are ancestors of the ids, as the store has them, each once. Each error is that of a
+  -- failed read of a lost ancestor. Unless memory ran out, the other ancestors are below lost ones:
+  -- without an error there are none.
+  pub record AreReadableAncestors (ids : List (List ℕ)) (commits : List ReadCommit)
+      (errors : List BackendError) : Type 0 where
+    pub stored : All (IsStored store) commits
+    pub reached : InEachHistory store (λ parents.
+        All (λ c. ReachesNode parents ids c.id) commits)
+    pub once : AllPairs (λ a b. a ≢ b) (map id_of commits)
+    -- the ids of the reads that failed
+    pub lost : List (List ℕ)
+    pub failed : AllZip (IsReadFailure may_fail store) errors lost
+    pub lost_reached : InEachHistory store (λ parents. All (ReachesNode parents ids) lost)
+    pub others : (Contains errors Memory → ⊥) → InEachHistory store (λ parents. (id : List ℕ)
+        → ReachesNode parents ids id → Contains (map id_of commits) id
+        ⊎ ReachesNode parents lost id)

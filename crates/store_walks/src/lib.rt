@@ -9,6 +9,7 @@ mod heads;
 mod ids;
 mod order;
 mod read_commit;
+mod readable;
 mod reads;
 
 pub use crate::ancestry::ancestors;
@@ -18,3 +19,4 @@ pub use crate::heads::head_commits;
 pub use crate::ids::history_ids;
 pub use crate::order::{HistoryError, history_order};
 pub use crate::read_commit::ReadCommit;
+pub use crate::readable::{ReadableAncestors, readable_ancestors};
