@@ -37,3 +37,4 @@ pub mod NodeGraphs
 pub mod ListNumbers
 pub mod SortedResults
 pub mod ArrayGraphs
+pub mod ReachableNodes

@@ -18,6 +18,7 @@ pub mod Expanding
 pub mod CommonSearch
 pub mod NodeMaps
 pub mod NodeSets
+pub mod NumberSets
 pub mod DenseSets
 pub mod HeadsSearch
 pub mod PackedLists

@@ -1,22 +1,24 @@
 //! Graphs as lists of neighbors in arrays. The nodes are numbers, and the neighbors of a node are
 //! the list at its index; a number without a list has none. Sets and maps of nodes are sparse sets
-//! and arrays, without hashing.
-ghost use Rattle.std.specs.Prelude.{◌≡◌, ◌<◌, ℕ, All, Contains, IfOk, IsOkAnd, MatchBool, MatchOption, length, map};
+//! without hashing, unless some node is far above the numbers of lists and of edges.
+ghost use Rattle.std.specs.Prelude.{◌≡◌, ◌<◌, ◌↔◌, ℕ, [], All, Contains, IfOk, IsOkAnd, MatchBool, MatchOption, eqb, length, map};
 ghost use Rattle.std.specs.Iterator.{YieldsFirst, item_count};
 ghost use Rattle.std.specs.Iterator.Adapters.{copied_source};
+ghost use Rattle.std.specs.List.{IsDistinct};
 ghost use Rattle.std.specs.List.Sorted.{IsStrictlyIncreasing};
 ghost use Rattle.std.specs.Slice.Iter.{iter_rest};
 ghost use Rattle.jj_dag.specs.ArrayGraphs.{HasCycle, graph_of};
 ghost use Rattle.jj_dag.specs.CommonNodes.{AreClosestCommon, HasNoCommonCycle};
-ghost use Rattle.jj_dag.specs.Graph.{AreMaximalElements, IsAcyclicFrom, IsGreatestTopologicalOrder, OnCycleFrom};
+ghost use Rattle.jj_dag.specs.Graph.{AreMaximalElements, IsAcyclicFrom, IsGreatestTopologicalOrder, OnCycleFrom, ReachedFrom};
+ghost use Rattle.jj_dag.specs.NumberSets.{keys_of};
 ghost use Rattle.jj_dag.specs.Outcomes.{IfFails};
 ghost use Rattle.jj_dag.specs.PackedLists.{lists_of};
 
 use crate::closest_common::{NodeState, closest_common_nodes_in};
-use crate::dense_map::DenseMap;
-use crate::dense_set::DenseSet;
 use crate::greatest_order::topo_order_reverse_ord_in;
 use crate::maximal::heads_in;
+use crate::node_set::NodeSet;
+use crate::number_set::{NumberMap, NumberSet};
 use crate::packed_lists::PackedLists;
 use crate::topo_order::topo_order_forward_in;
 use crate::walk_error::WalkError;
@@ -29,6 +31,10 @@ use std::slice;
 #[derive(Drop)]
 pub struct ArrayGraph {
     lists: PackedLists,
+    // Sets of nodes below it are dense: the number of lists and edges, and some more.
+    dense_end: usize,
+    // Whether all neighbors are below `dense_end`.
+    has_dense_neighbors: bool,
 }
 
 impl Model for ArrayGraph {
@@ -81,25 +87,35 @@ fn sound_neighbors_of(
     Ok(graph.neighbors_of(node).iter().copied())
 }
 
-/// Sets and maps of nodes that several walks share. A walk clears them in constant time.
+/// Sets and maps of nodes that several walks share. A walk clears them in constant time if its
+/// nodes are small.
 #[derive(Drop)]
 pub struct Visited {
-    heads: DenseSet,
-    visited: DenseSet,
-    known: DenseMap<NodeState>,
-    index_of: DenseMap<usize>,
+    heads: NumberSet,
+    visited: NumberSet,
+    known: NumberMap<NodeState>,
+    index_of: NumberMap<usize>,
 }
 
 impl Visited {
     /// Creates empty sets and maps.
     pub fn new(alloc: Global) -> Visited {
         Visited {
-            heads: DenseSet::new(alloc),
-            visited: DenseSet::new(alloc),
-            known: DenseMap::new(alloc),
-            index_of: DenseMap::new(alloc),
+            heads: NumberSet::new(alloc, true),
+            visited: NumberSet::new(alloc, true),
+            known: NumberMap::new(alloc, true),
+            index_of: NumberMap::new(alloc, true),
         }
     }
+}
+
+// Returns a length of arrays that is in proportion to these counts.
+fn dense_end(count1: usize, count2: usize) -> usize {
+    count1.saturating_add(count2).saturating_add(1024)
+}
+
+fn are_below(end: usize, nodes: &[usize]) -> bool {
+    nodes.iter().all(|node| *node < end)
 }
 
 impl ArrayGraph {
@@ -107,7 +123,14 @@ impl ArrayGraph {
     pub fn new(lists: PackedLists) -> ArrayGraph
         ensures { result ≡ lists_of lists }
     {
-        ArrayGraph { lists }
+        let numbers = lists.numbers();
+        let dense_end = dense_end(lists.len(), numbers.len());
+        let has_dense_neighbors = are_below(dense_end, numbers);
+        ArrayGraph {
+            lists,
+            dense_end,
+            has_dense_neighbors,
+        }
     }
 
     /// Copies the lists. Fails if memory runs out.
@@ -132,6 +155,12 @@ impl ArrayGraph {
         }
     }
 
+    // Returns whether arrays up to the greatest node that these starts reach are no longer than the
+    // lists, the edges and the starts.
+    fn has_dense_nodes(&self, starts: &[usize]) -> bool {
+        self.has_dense_neighbors && are_below(dense_end(self.dense_end, starts.len()), starts)
+    }
+
     // Returns the neighbors of all nodes.
     fn all_neighbors(&self) -> &[usize]
         ensures { (node neighbor : ℕ) → Contains (graph_of self.now node) neighbor
@@ -147,8 +176,9 @@ impl ArrayGraph {
             (IsAcyclicFrom (graph_of self.now) starts.now)
             (OnCycleFrom (graph_of self.now) starts.now)) }
     {
-        let mut visiting = DenseSet::new(alloc);
-        let mut emitted = DenseSet::new(alloc);
+        let is_dense = self.has_dense_nodes(starts);
+        let mut visiting = NumberSet::new(alloc, is_dense);
+        let mut emitted = NumberSet::new(alloc, is_dense);
         let order = topo_order_forward_in(
             alloc,
             &mut visiting,
@@ -179,6 +209,48 @@ impl ArrayGraph {
         }
     }
 
+    // Depth-first search: returns the nodes that the starts reach, each once. The set is empty
+    // before, and has these nodes after.
+    fn collect_reachable(
+        &self,
+        alloc: Global,
+        visited: &mut NumberSet,
+        starts: &[usize],
+    ) -> Result<Vec<usize>, AllocError>
+        requires { keys_of visited.old ≡ [] }
+        ensures reached { IfOk result (λ found. (node : ℕ) → Contains found.items node
+            ↔ ReachedFrom (graph_of self.now) starts.now node) }
+        ensures once { IfOk result (λ found. IsDistinct eqb found.items) }
+    {
+        let mut pending = Vec::from_slice(alloc, starts)?;
+        let mut found = Vec::new(alloc);
+        while let Some(node) = pending.pop() {
+            if visited.insert(node)? {
+                found.push(node)?;
+                pending.extend_from_slice(self.neighbors_of(node))?;
+            }
+        }
+        Ok(found)
+    }
+
+    /// Returns the nodes that the starts reach, with the starts, in ascending order. Fails if
+    /// memory runs out. Takes `O(n log n + e)`.
+    pub fn reachable(
+        &self,
+        alloc: Global,
+        visited: &mut Visited,
+        starts: &[usize],
+    ) -> Result<Vec<usize>, AllocError>
+        ensures reached { IfOk result (λ found. (node : ℕ) → Contains found.items node
+            ↔ ReachedFrom (graph_of self.now) starts.now node) }
+        ensures ascending { IfOk result (λ found. IsStrictlyIncreasing found.items) }
+    {
+        visited.visited.clear(alloc, self.has_dense_nodes(starts));
+        let mut found = self.collect_reachable(alloc, &mut visited.visited, starts)?;
+        found.sort_unstable();
+        Ok(found)
+    }
+
     /// Returns the nodes that the starts reach in the lexicographically greatest topological order.
     /// Fails with a node on a cycle if they reach one, and if memory runs out. Takes
     /// `O(n log n + e)`.
@@ -193,7 +265,7 @@ impl ArrayGraph {
         ensures acyclic { IfOk result (λ _. IsAcyclicFrom (graph_of self.now) starts.now) }
         ensures cycle { IfFails result (OnCycleFrom (graph_of self.now) starts.now) }
     {
-        visited.index_of.clear();
+        visited.index_of.clear(alloc, self.has_dense_nodes(starts));
         let order = topo_order_reverse_ord_in(
             alloc,
             &mut visited.index_of,
@@ -228,8 +300,9 @@ impl ArrayGraph {
         ensures ascending { IfOk result (λ heads. IsAcyclicFrom (graph_of self.now) starts.now
             → IsStrictlyIncreasing heads.items) }
     {
-        visited.heads.clear();
-        visited.visited.clear();
+        let is_dense = self.has_dense_nodes(starts);
+        visited.heads.clear(alloc, is_dense);
+        visited.visited.clear(alloc, is_dense);
         heads_in(
             alloc,
             &mut visited.heads,
@@ -238,7 +311,7 @@ impl ArrayGraph {
             |node: &usize| Ok(*node),
             |node: &usize| self.neighbors_of(*node).iter().copied(),
         )?;
-        let mut ascending = Vec::from_slice(alloc, visited.heads.as_slice())?;
+        let mut ascending = visited.heads.to_vec(alloc)?;
         ascending.sort_unstable();
         Ok(ascending)
     }
@@ -259,7 +332,8 @@ impl ArrayGraph {
             HasNoCommonCycle (graph_of self.now) set1.now set2.now
             → IsStrictlyIncreasing found.items) }
     {
-        visited.known.clear();
+        let is_dense = self.has_dense_nodes(set1) && self.has_dense_nodes(set2);
+        visited.known.clear(alloc, is_dense);
         let found = closest_common_nodes_in(
             alloc,
             &mut visited.known,

@@ -18,6 +18,7 @@ mod maximal;
 mod maximal_lists;
 pub mod node_map;
 pub mod node_set;
+mod number_set;
 pub mod packed_lists;
 mod topo_order;
 pub mod walk_error;

@@ -1,10 +1,11 @@
-use Rattle.std.proofs.Common.{rules, of_calls, ◌≡◌, ◌∙◌, refl, subst, sym, map}
+use Rattle.std.proofs.Common.{rules, of_calls, ◌≡◌, refl, subst, sym, map}
 use Rattle.std.specs.List.Sorted.{IsPermutation}
 use Rattle.std.proofs.lemmas.Fn.{always_returns_same}
 use Rattle.std.proofs.lemmas.List.{map-id}
 use Rattle.jj_dag.specs.Graph.{AreMaximalElements, IsAcyclicFrom}
 use Rattle.jj_dag.proofs.SortedResults.{maximal_permuted, maximal_rising}
 use Rattle.jj_dag.specs.ArrayGraphs.{graph_of}
+use Rattle.jj_dag.specs.NumberSets.{keys_of}
 use Rattle.jj_dag.proofs.ArrayGraphs.{copied_nodes, implements_lists, model_of}
 use Rattle.jj_dag.proofs.array_graph.ArrayGraph.heads.Goals as goal
 
@@ -23,9 +24,9 @@ returns-clause-maximal c acyclic =
     let found = p.holds (model_of graph)
     (implements_lists graph _ _ _ (λ x i h. search (rules, of_calls, h.says.met, h.shows)) _ (λ a r f h. (search (rules, of_calls, h), search (rules, of_calls, h))))
     (λ a h. refl) (subst (IsAcyclicFrom graph) (sym starts) acyclic) (λ x y a. refl) in
-    let heads = c.heads_in.new.heads in
+    let heads = keys_of c.heads_in.new.heads in
     let of_nodes : AreMaximalElements graph c.args.starts.now heads = subst (λ nodes. AreMaximalElements graph nodes heads) starts (subst (λ keys. AreMaximalElements graph (map (λ x. x) p.starts) keys) (map-id heads) found) in
-    let copied : c.in_ok-ascending.ascending.items ≡ heads = c.in_ok-ascending.ensures.items ∙ c.as_slice.ensures in
+    let copied : c.in_ok-ascending.ascending.items ≡ heads = c.in_ok-ascending.ensures in
     maximal_permuted graph c.args.starts.now heads c.sort_unstable.new.self.items (subst (λ xs. IsPermutation xs c.sort_unstable.new.self.items) copied c.sort_unstable.ensures.permutation) of_nodes
 
 pub returns-clause-ascending : goal.returns-clause-ascending
