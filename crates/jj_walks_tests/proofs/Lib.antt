@@ -10,4 +10,3 @@ pub mod LookedUpCommits
 pub mod KnownAncestors
 pub mod ImplementedGraphs
 pub mod Children
-pub mod AdjacencyLists
