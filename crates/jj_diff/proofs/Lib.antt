@@ -1,2 +1,4 @@
+pub mod CommonEnds
+pub mod HunkEnds
 pub mod Rows
 pub mod TokenEnds

@@ -41,10 +41,10 @@ push_here : (xs : List (List ℕ)) (x : List ℕ) (n : ℕ) → length xs ≡ n 
 push_here xs x n e = grind (arith, common_steps, elements)
 
 -- the reference that reads past the end of a row return
-abbrev none : Bor (List ℕ)
+abbrev pub none : Bor (List ℕ)
 none = record { ref_ptr = (0, 0); now = [] }
 
-none_at : (refs : List (Bor (List ℕ))) (i : ℕ) → get_or (bytes_of refs) i [] ≡ (get_or refs i none).now
+pub none_at : (refs : List (Bor (List ℕ))) (i : ℕ) → get_or (bytes_of refs) i [] ≡ (get_or refs i none).now
 none_at refs i = map-get (λ r. r.now) refs i none
 
 empty-from_test : (xs : List ℕ) → (length xs == 0) ≡ true → xs ≡ []
@@ -138,7 +138,7 @@ cut_whole Lines text = inr (grind (arith, common_steps, eq-eqb (length text) (le
 cut_whole Words text = inr (grind (arith, common_steps, eq-eqb (length text) (length text) refl))
 
 -- no hunks end before the first byte
-no_cuts : (t : Tokenizer) (text : List ℕ) (i k : ℕ) → IsCut t text (length (side i (map row_of (take k []))))
+pub no_cuts : (t : Tokenizer) (text : List ℕ) (i k : ℕ) → IsCut t text (length (side i (map row_of (take k []))))
 no_cuts t text i zero = inl refl
 no_cuts t text i (suc k) = inl refl
 
@@ -240,27 +240,7 @@ prefix_whole t inputs hs ends whole before = record {
   cuts = before.cuts;
 }
 
--- from the end of some hunks to the end of the inputs
-pub ranges_rest : (t : Tokenizer) (inputs : List (List ℕ)) (hs : List DiffHunk) (at ends : List ℕ)
-    → IsPrefixDiff t inputs hs at → length ends ≡ length inputs
-    → ((i : ℕ) → i < length inputs → get_or ends i 0 ≡ length (get_or inputs i []))
-    → AreRanges inputs at ends
-ranges_rest t inputs hs at ends before len whole = record {
-  starts_len = before.len;
-  ends_len = len;
-  ordered = λ i lt. subst (λ n. get_or at i 0 ≤ n) (sym (whole i lt)) (before.within i lt);
-  within = λ i lt. grind (arith, whole i lt);
-}
-
 pub ruleset prefix_steps = (prefix_different, prefix_matching, prefix_skip, ends_in_push)
-
--- the ends of all inputs are cuts
-pub cuts_rest : (t : Tokenizer) (inputs : List (List ℕ)) (ends : List ℕ)
-    → ((i : ℕ) → i < length inputs → get_or ends i 0 ≡ length (get_or inputs i []))
-    → AreCuts t inputs ends
-cuts_rest t inputs ends whole i lt = subst (λ n. IsCut t (get_or inputs i []) n) (sym (whole i lt)) (cut_whole t (get_or inputs i []))
-
-pub ruleset rest_steps = (prefix_whole, ranges_rest, cuts_rest, length-bytes_of)
 
 -- no hunk, if all inputs are empty
 pub whole_none : (t : Tokenizer) (inputs : List (List ℕ)) → IsEmpty inputs → IsDiff t inputs []

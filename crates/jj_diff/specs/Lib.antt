@@ -1,4 +1,5 @@
 -- in reading order
 pub mod Inputs
 pub mod Tokens
+pub mod Ends
 pub mod Hunks

@@ -1,8 +1,9 @@
 //! Comparison of N byte strings as hunks that match in all of them or differ.
 ghost use Rattle.std.specs.Prelude.{IfOk};
 ghost use Rattle.jj_diff.specs.Inputs.{AreEqual, bytes_of};
-ghost use Rattle.jj_diff.specs.Hunks.{AllMatch, IsDiff};
+ghost use Rattle.jj_diff.specs.Hunks.{AllMatch, IsDiff, MatchesEnds};
 
+mod common;
 mod hunks;
 mod regions;
 mod search;
@@ -20,6 +21,8 @@ pub fn diff_by_line<'a>(
     base: usize,
 ) -> Result<Vec<DiffHunk<'a>>, AllocError>
     ensures diff { IfOk result (λ hunks. IsDiff Tokenizer.Lines (bytes_of inputs.now) hunks.items) }
+    ensures ends { IfOk result
+        (λ hunks. MatchesEnds Tokenizer.Lines (bytes_of inputs.now) hunks.items) }
     ensures identity { IfOk result
         (λ hunks. AreEqual (bytes_of inputs.now) → AllMatch hunks.items) }
 {

@@ -1,5 +1,5 @@
 //! Tokenizers: split byte strings into lines or words.
-ghost use Rattle.std.specs.Prelude.{◌≡◌, ℕ, ◌+◌, ◌<◌, ◌≤◌, length, filter, IfOk, IsTrue};
+ghost use Rattle.std.specs.Prelude.{◌≡◌, ℕ, ◌+◌, ◌<◌, ◌≤◌, length, filter, IfOk, IsTrue, IsFalse};
 ghost use Rattle.std.specs.List.{range_with_len};
 ghost use Rattle.jj_diff.specs.Tokens.{is_line_end, is_word_end, is_word_byte, is_token_end, IsCut};
 
@@ -29,7 +29,8 @@ impl Tokenizer {
     // Returns whether no token is only partly in the prefix of this length.
     pub(super) fn is_cut(self, text: &[u8], len: usize) -> bool
         requires { len ≤ length text.now }
-        ensures { IsTrue result → IsCut self text.now len }
+        ensures cut { IsTrue result → IsCut self text.now len }
+        ensures no_cut { IsFalse result → ¬ (IsCut self text.now len) }
     {
         if len == 0 {
             return true;

@@ -1,6 +1,7 @@
-use Rattle.std.proofs.Common.{rules, ap}
+use Rattle.std.proofs.Common.{rules, ap, refl}
 use Rattle.jj_diff.specs.Inputs.{bytes_of, IsNonempty}
 use Rattle.jj_diff.proofs.Rows.{whole_one}
+use Rattle.jj_diff.proofs.HunkEnds.{ends_one}
 use Rattle.jj_diff.proofs.diff.hunks.equal_hunks.Goals as goal
 
 pub returns-clause-diff : goal.returns-clause-diff
@@ -8,3 +9,8 @@ returns-clause-diff c =
     let nonempty : IsNonempty (bytes_of c.args.inputs.now) = search rules in
     rw (c.in_ok-push.ensures.items, c.new-hunks.ensures.items)
     (whole_one c.args.tokenizer (bytes_of c.args.inputs.now) _ (ap bytes_of c.in_ok-row.ensures.items) nonempty c.requires)
+
+pub returns-clause-ends : goal.returns-clause-ends
+returns-clause-ends c =
+    rw (c.in_ok-push.ensures.items, c.new-hunks.ensures.items)
+    (ends_one c.args.tokenizer (bytes_of c.args.inputs.now) _ (ap bytes_of c.in_ok-row.ensures.items) refl)

@@ -1,0 +1,7 @@
+use Rattle.std.proofs.Common.{ℕ, ◌+◌, ◌≤◌}
+use Rattle.jj_diff.specs.Inputs.{bytes_of}
+use Rattle.jj_diff.specs.Ends.{AreStartCuts}
+use Rattle.jj_diff.proofs.diff.common.last_start_cut.Given as goal
+
+abbrev pub invariant-loop-back : goal.invariant-loop-back
+invariant-loop-back l = (n : ℕ) → n ≤ l.most → AreStartCuts l.tokenizer (bytes_of l.inputs) n → n + l.back ≤ l.most
