@@ -2,3 +2,4 @@ pub mod CommonEnds
 pub mod HunkEnds
 pub mod Rows
 pub mod TokenEnds
+pub mod TokenRanges

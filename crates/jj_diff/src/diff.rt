@@ -5,11 +5,13 @@ ghost use Rattle.jj_diff.specs.Hunks.{AllMatch, IsDiff, MatchesEnds};
 
 mod common;
 mod hunks;
+mod ranges;
 mod regions;
 mod search;
 mod tokens;
 
 pub use hunks::{DiffHunk, DiffHunkKind, MatchedRegion, hunks_of_regions};
+pub use ranges::{find_line_ranges, find_nonword_ranges, find_word_ranges};
 pub use regions::find_regions;
 use std::alloc::{AllocError, Global};
 pub use tokens::{Tokenizer, find_line_ends, find_word_ends};

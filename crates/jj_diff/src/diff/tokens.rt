@@ -65,7 +65,7 @@ pub fn find_line_ends(alloc: Global, text: &[u8]) -> Result<Vec<usize>, AllocErr
     Ok(ends)
 }
 
-fn is_word_byte(byte: u8) -> bool
+pub(super) fn is_word_byte(byte: u8) -> bool
     ensures { result ≡ is_word_byte byte }
 {
     byte.is_ascii_alphanumeric() || byte == b'_' || byte >= 0x80
