@@ -1,13 +1,17 @@
 //! Callers of `jj_dag`.
-ghost use Rattle.std.specs.Prelude.{◌≡◌, ◌⊎◌, IfOk, IsTrue, map};
+ghost use Rattle.std.specs.Prelude.{◌≡◌, ◌⊎◌, IfOk, IsTrue, eqb, false, map};
+ghost use Rattle.std.specs.Set.{is_member};
 ghost use Rattle.jj_dag.specs.ClosureGraph.{InEachModel, InEachModelOfTwo, IsCycleError, IsInputError, IsMadeBesideCycle, IsNeighborsErrorOfTwo, graph_of_items, graph_of_lists, list_of, list_of_items};
 ghost use Rattle.jj_dag.specs.Found.{AreClosestNodes, AreHeads};
 ghost use Rattle.jj_dag.specs.GreatestOrder.{IsGreatestOrder};
 ghost use Rattle.jj_dag.specs.Orders.{IsWholePostorder};
+ghost use Rattle.jj_dag.specs.NodeSets.{Updates};
 ghost use Rattle.jj_dag.specs.Outcomes.{IfFails};
 
 use jj_dag::dag_walk::{self, WalkError};
 use jj_dag::dag_walk_async;
+use jj_dag::dense_set::DenseSet;
+use jj_dag::node_set::NodeSet;
 use std::alloc::{AllocError, Global};
 use std::collections::HashSet;
 use std::hash::Hash;
@@ -139,4 +143,12 @@ where
 {
     let found = dag_walk_async::topo_order_reverse_ord(alloc, start, id_fn, neighbors_fn, cycle_fn);
     found
+}
+
+/// `NodeSet::remove` of `DenseSet`.
+pub fn remove(set: &mut DenseSet, number: usize) -> bool
+    ensures removed { result ≡ is_member eqb set.old number }
+    ensures updates { Updates eqb set.old set.new number false }
+{
+    set.remove(&number)
 }

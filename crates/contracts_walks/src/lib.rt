@@ -3,3 +3,4 @@
 #![tactic(auto)]
 
 pub mod dag;
+pub mod walks;
