@@ -2,11 +2,13 @@
 #![tactic(auto)]
 
 pub mod content_hash;
+pub mod file_util;
 pub mod laws;
 
 pub use jj_backend::backend;
 pub use jj_content::{blake2b, hex_util, symbol_util};
-pub use jj_files::{file_util, fs_text};
+pub use jj_diff::diff;
+pub use jj_files::fs_text;
 pub use jj_globs::glob;
 pub use jj_ids::{object_id, ref_name};
 pub use jj_matchers::matchers;
