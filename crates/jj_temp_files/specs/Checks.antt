@@ -1,10 +1,10 @@
 -- Links, and the test of the executable bit.
 -- Cited by contracts of public items: LinksAt, TestsExecutableBit.
-use Rattle.std.specs.Prelude.{◌≡◌, ◌⊎◌, ℕ, Bool, false, ◌==◌, List, Result, Ok, Err, MatchResult, IsErrAnd, if◌then◌else◌, bit_and, bit_xor, string_bytes}
+use Rattle.std.specs.Prelude.{◌≡◌, ◌⊎◌, ℕ, Bool, false, ◌==◌, List, Result, Ok, Err, MatchResult, bit_and, bit_xor}
 use Rattle.std.specs.declared.io.Error.{Error}
 use Rattle.std.specs.declared.io.ErrorKind.TheVariants.{PermissionDenied}
 use Rattle.std.specs.IoError.{error_kind}
-use Rattle.jj_files.specs.PathErrors.{AddsPath, IsAtPath}
+use Rattle.jj_files.specs.PathErrors.{AddsPath}
 use Rattle.jj_files.specs.declared.file_util.errors.PathError.{PathError}
 use Rattle.jj_temp_files.specs.declared.access.FileStatus.{FileStatus}
 use Rattle.jj_temp_files.specs.declared.temp_file.NamedTempFile.{NamedTempFile}
@@ -53,11 +53,12 @@ KeepsExecutableBit may_stat may_set_mode file old result new =
 -- A new file was created in the directory, unlinked, and tested; or the error of one of these with
 -- its path.
 abbrev pub TestsExecutableBit : {S F : Type 0} → (S → List ℕ → Result F Error → S → Type 0)
-    → RemoveRelation S → StatRelation S F → SetModeRelation S F → List ℕ → S
-    → Result Bool PathError → S → Type 0
-TestsExecutableBit {S} {F} may_create may_remove may_stat may_set_mode dir old result new =
+    → RemoveRelation S → StatRelation S F → SetModeRelation S F → List ℕ → ℕ → S
+    → Result Bool PathError → ℕ → S → Type 0
+TestsExecutableBit {S} {F} may_create may_remove may_stat may_set_mode dir first old result last
+    new =
     (created : Result (NamedTempFile F) PathError) × (there : S)
-    × CreatesTempFile may_create dir old created there
+    × CreatesTempFile may_create dir first old created last there
     × MatchResult created
     (λ temp. (unlinked : Result F PathError) × (gone : S)
     × UnlinksFile may_remove temp there unlinked gone

@@ -3,3 +3,4 @@ pub mod TempNames
 pub mod Persisting
 pub mod Checks
 pub mod Crashes
+pub mod WrappedFiles

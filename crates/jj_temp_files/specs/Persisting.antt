@@ -1,6 +1,6 @@
 -- Persisting, closing and unlinking a temporary file.
 -- Cited by contracts of public items: PersistsFile, RenamesFile, RemovesFile, UnlinksFile.
-use Rattle.std.specs.Prelude.{◌≡◌, ◌⊎◌, ℕ, List, Result, Ok, Err, MatchResult, IsErrAnd, string_bytes}
+use Rattle.std.specs.Prelude.{◌≡◌, ℕ, List, Result, Ok, Err, MatchResult, IsErrAnd, string_bytes}
 use Rattle.std.specs.declared.io.Error.{Error}
 use Rattle.jj_files.specs.PathErrors.{AddsPath, IsAtPath}
 use Rattle.jj_files.specs.declared.file_util.errors.PathError.{PathError}

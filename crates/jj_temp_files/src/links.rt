@@ -57,7 +57,7 @@ pub fn check_executable_bit_support<A: FileAccess>(
     names: &mut TempNames,
 ) -> Result<bool, PathError>
     ensures { TestsExecutableBit A.may_create A.may_remove A.may_stat A.may_set_mode dir.now
-        files.old result files.new }
+        names.old files.old result names.new files.new }
 {
     let temp_file = NamedTempFile::new_in(alloc, files, dir, names)?;
     let file = temp_file.unlink(alloc, files)?;

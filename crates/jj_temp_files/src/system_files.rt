@@ -1,5 +1,6 @@
 //! The file system of a process.
-ghost use Rattle.std.specs.Prelude.{⊤};
+ghost use Rattle.std.specs.Prelude.{◌≡◌};
+ghost use Rattle.jj_temp_files.specs.WrappedFiles.{wrapped_files};
 
 use crate::{FileAccess, FileStatus};
 use std::fs::{Files, Metadata, OpenFile, OpenOptions, Permissions};
@@ -20,7 +21,9 @@ pub struct SystemFiles<F> {
 
 impl<F> SystemFiles<F> {
     /// Wraps a file system.
-    pub fn new(files: F) -> SystemFiles<F> {
+    pub fn new(files: F) -> SystemFiles<F>
+        ensures { wrapped_files result ≡ files }
+    {
         SystemFiles { files }
     }
 }

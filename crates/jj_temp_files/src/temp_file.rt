@@ -1,11 +1,11 @@
 //! Temporary files that are renamed over their final path once they are whole.
-ghost use Rattle.std.specs.Prelude.{◌≡◌, ◌↔◌, ◌++◌, IsTrue, IfOk, IsErrAnd, MatchResult, Result, codes, decimal, string_bytes};
+ghost use Rattle.std.specs.Prelude.{◌≡◌, ◌↔◌, ◌++◌, IsTrue, IfOk, IsErrAnd, MatchResult, OnErr, OnOk, Result, codes, decimal, string_bytes};
 ghost use Rattle.std.specs.Path.{path_join};
 ghost use Rattle.std.specs.Io.{WritesAtMost};
 ghost use Rattle.std.specs.declared.io.ErrorKind.TheVariants.{AlreadyExists};
 ghost use Rattle.std.specs.IoError.{error_kind};
 ghost use Rattle.jj_files.specs.PathErrors.{IsAtPath};
-ghost use Rattle.jj_temp_files.specs.TempNames.{CreatesTempFile, IsNumberedPath, IsTaken};
+ghost use Rattle.jj_temp_files.specs.TempNames.{CreatesTempFile, IsTaken, next_number, numbered_path};
 ghost use Rattle.jj_temp_files.specs.Persisting.{PersistsFile, RenamesFile, RemovesFile, SyncsAndRenames, UnlinksFile};
 
 use crate::FileAccess;
@@ -14,35 +14,56 @@ use jj_files::file_util::{IoResultExt, PathError};
 use std::alloc::{AllocError, Global};
 use std::io;
 use std::io::ErrorKind;
+use std::marker::Model;
 use std::path::PathBuf;
 
 // How many names that are taken `new_in` passes over.
 const MAX_TAKEN_NAMES: u32 = 1 << 16;
 
-/// Numbers for the names of temporary files. Names that are taken, as by a process that was killed,
-/// are passed over, so any first number is right; a random one finds a free name at once.
+/// Numbers for the names of temporary files, which count up from the first one. Names that are
+/// taken, as by a process that was killed, are passed over, so any first number is right; a random
+/// one finds a free name at once.
 #[derive(Debug, Drop)]
 pub struct TempNames {
     next: u64,
 }
 
+impl Model for TempNames {
+    ghost use Rattle.std.specs.Prelude.{ℕ};
+
+    ghost Value = { ℕ };
+
+    ghost view = { λ names. names.next };
+}
+
 impl TempNames {
     /// Starts with a number.
-    pub fn new(first: u64) -> TempNames {
+    pub fn new(first: u64) -> TempNames
+        ensures { result ≡ first }
+    {
         TempNames { next: first }
     }
 
     // Returns the path below `dir` with the next number.
     fn next_path(&mut self, alloc: Global, dir: &str) -> Result<String, AllocError>
-        ensures { IfOk result (λ path. IsNumberedPath dir.now (string_bytes path)) }
+        ensures path { IfOk result (λ path. string_bytes path ≡ numbered_path dir.now self.old) }
+        ensures next { OnOk result (self.new ≡ next_number self.old) }
+        ensures unchanged { OnErr result (self.new ≡ self.old) }
     {
         let number = self.next;
+        let path = path_of_number(alloc, dir, number)?;
         self.next = number.wrapping_add(1);
-        let name = numbered_name(alloc, number)?;
-        let mut path = PathBuf::from_str(alloc, dir)?;
-        path.push(name.as_str())?;
-        Ok(path.into_string())
+        Ok(path)
     }
+}
+
+fn path_of_number(alloc: Global, dir: &str, number: u64) -> Result<String, AllocError>
+    ensures { IfOk result (λ path. string_bytes path ≡ numbered_path dir.now number) }
+{
+    let name = numbered_name(alloc, number)?;
+    let mut path = PathBuf::from_str(alloc, dir)?;
+    path.push(name.as_str())?;
+    Ok(path.into_string())
 }
 
 fn numbered_name(alloc: Global, number: u64) -> Result<String, AllocError>
@@ -71,9 +92,10 @@ impl<F: Drop> NamedTempFile<F> {
         dir: &str,
         names: &mut TempNames,
     ) -> Result<NamedTempFile<F>, PathError>
-        ensures { CreatesTempFile A.may_create dir.now files.old result files.new }
+        ensures { CreatesTempFile A.may_create dir.now names.old files.old result
+            names.new files.new }
     {
-        for _ in 0..MAX_TAKEN_NAMES {
+        for _count in 0..MAX_TAKEN_NAMES {
             let path = names.next_path(alloc, dir)?;
             let created = files.create_new(path.as_str());
             if !is_taken(&created) {

@@ -1,46 +1,43 @@
-use Rattle.std.proofs.Common.{◌≡◌, ◌≢◌, ◌∙◌, ◌++◌, ap, sym, subst, List, ℕ, Option, Some, string_bytes}
-use Rattle.jj_temp_files.specs.Crashes.{Changes}
-use Rattle.jj_temp_files.proofs.CrashLemmas.{changes_twice, unchanged_more, is_other, leaves_old_or}
+use Rattle.std.proofs.Common.{◌≡◌, subst, List, ℕ, Option, Some, string_bytes, inl}
+use Rattle.jj_temp_files.specs.Crashes.{ReplacesFile}
+use Rattle.jj_temp_files.proofs.CrashLemmas.{changes_twice, unchanged_more, untouched_twice, is_other, leaves_old_or}
 use Rattle.jj_temp_files.proofs.whole_files.write_file.Goals as goal
 
-pub returns-in_err-temp_file : goal.returns-in_err-temp_file
-returns-in_err-temp_file g c = record {
-  any_moment = λ absent.
-      leaves_old_or g.A.CrashSafe.moment g.A.CrashSafe.left_since g.A.CrashSafe.may_leave g.A.CrashSafe.only_now
-      c.args.files.now c.create_empty.new.files c.args.path.now c.args.bytes.now
-      (unchanged_more g.A.CrashSafe.moment g.A.CrashSafe.left_since c.args.files.now c.create_empty.new.files c.args.path.now
-      (λ left. left ≡ Some c.args.bytes.now) (c.create_empty.ensures.others c.args.path.now absent));
-}
+pub returns-in-Err-clause-any_moment : goal.returns-in-Err-clause-any_moment
+returns-in-Err-clause-any_moment g c = λ absent.
+    leaves_old_or g.A.CrashSafe.moment g.A.CrashSafe.left_since g.A.CrashSafe.may_leave g.A.CrashSafe.only_now
+    c.args.files.now c.create_empty.new.files c.args.path.now c.args.bytes.now
+    (unchanged_more g.A.CrashSafe.moment g.A.CrashSafe.left_since c.args.files.now c.create_empty.new.files c.args.path.now
+    (λ left. left ≡ Some c.args.bytes.now) (c.create_empty.ensures.others c.args.path.now absent).crash)
 
-pub returns-in-Ok : goal.returns-in-Ok
-returns-in-Ok g c = record {
-  any_moment = λ absent.
-      let made = c.in_ok-temp_file.ensures.created in
-      let apart = is_other c.args.dir.now (string_bytes c.in_ok-temp_file.temp_file.path) c.args.path.now made.0 absent in
-      let created = c.create_empty.ensures.others c.args.path.now absent in
-      let wrote = c.write_all.ensures.others c.args.path.now (λ equal. apart (equal ∙ made.1)) in
-      let whole = c.in-Ok.ensures.written ∙ ap (λ (w : List ℕ). w ++ c.args.bytes.now) made.2 in
-      let P : List ℕ → Type 0 = λ w. Changes g.A.CrashSafe.moment g.A.CrashSafe.left_since c.write_all.new.files c.persist_whole.new.files c.args.path.now (λ left. left ≡ Some w) in
-      let persisted = subst P whole (c.persist_whole.ensures (c.write_all.ensures.created ∙ made.1 ∙ ap string_bytes (sym c.write_all.ensures.path)) (λ equal. apart (equal ∙ ap string_bytes c.write_all.ensures.path))) in
-      leaves_old_or g.A.CrashSafe.moment g.A.CrashSafe.left_since g.A.CrashSafe.may_leave g.A.CrashSafe.only_now
-      c.args.files.now c.persist_whole.new.files c.args.path.now c.args.bytes.now
-      (changes_twice g.A.CrashSafe.moment g.A.CrashSafe.left_since c.args.files.now c.create_empty.new.files c.persist_whole.new.files c.args.path.now (λ left. left ≡ Some c.args.bytes.now)
-      (unchanged_more g.A.CrashSafe.moment g.A.CrashSafe.left_since c.args.files.now c.create_empty.new.files c.args.path.now (λ left. left ≡ Some c.args.bytes.now) created)
-      (changes_twice g.A.CrashSafe.moment g.A.CrashSafe.left_since c.create_empty.new.files c.write_all.new.files c.persist_whole.new.files c.args.path.now (λ left. left ≡ Some c.args.bytes.now)
-      (unchanged_more g.A.CrashSafe.moment g.A.CrashSafe.left_since c.create_empty.new.files c.write_all.new.files c.args.path.now (λ left. left ≡ Some c.args.bytes.now) wrote) persisted));
-}
+pub returns-in-Err-clause-contents : goal.returns-in-Err-clause-contents
+returns-in-Err-clause-contents g c = λ absent. inl (c.create_empty.ensures.others c.args.path.now absent).now
 
-pub returns-in-Err : goal.returns-in-Err
-returns-in-Err g c = record {
-  any_moment = λ absent.
-      let made = c.in_ok-temp_file.ensures.created in
-      let apart = is_other c.args.dir.now (string_bytes c.in_ok-temp_file.temp_file.path) c.args.path.now made.0 absent in
-      let created = c.create_empty.ensures.others c.args.path.now absent in
-      let wrote = c.write_all.ensures.others c.args.path.now (λ equal. apart (equal ∙ made.1)) in
-      let removed = g.met.A.CrashSafe.removes c.write_all.new.files c.close.new.files (string_bytes c.write_all.new.temp_file.path) c.close.ensures.0 c.close.ensures.1 c.args.path.now (λ equal. apart (equal ∙ ap string_bytes c.write_all.ensures.path)) in
-      leaves_old_or g.A.CrashSafe.moment g.A.CrashSafe.left_since g.A.CrashSafe.may_leave g.A.CrashSafe.only_now
-      c.args.files.now c.close.new.files c.args.path.now c.args.bytes.now
-      (unchanged_more g.A.CrashSafe.moment g.A.CrashSafe.left_since c.args.files.now c.close.new.files c.args.path.now (λ left. left ≡ Some c.args.bytes.now)
-      (changes_twice g.A.CrashSafe.moment g.A.CrashSafe.left_since c.args.files.now c.create_empty.new.files c.close.new.files c.args.path.now (λ left. ⊥) created
-      (changes_twice g.A.CrashSafe.moment g.A.CrashSafe.left_since c.create_empty.new.files c.write_all.new.files c.close.new.files c.args.path.now (λ left. ⊥) wrote removed)));
-}
+pub returns-in-Err-clause-others : goal.returns-in-Err-clause-others
+returns-in-Err-clause-others g c = λ other not_path absent. c.create_empty.ensures.others other absent
+
+pub returns-in-Ok-clause-any_moment : goal.returns-in-Ok-clause-any_moment
+returns-in-Ok-clause-any_moment g c = λ absent.
+    let made = c.in-Ok.ensures.created in
+    let apart = is_other c.args.dir.now (string_bytes c.in-Ok.temp_file.path) c.args.path.now made.0 absent in
+    let created = c.create_empty.ensures.others c.args.path.now absent in
+    leaves_old_or g.A.CrashSafe.moment g.A.CrashSafe.left_since g.A.CrashSafe.may_leave g.A.CrashSafe.only_now
+    c.args.files.now c.fill_and_persist.new.files c.args.path.now c.args.bytes.now
+    (changes_twice g.A.CrashSafe.moment g.A.CrashSafe.left_since c.args.files.now c.create_empty.new.files c.fill_and_persist.new.files c.args.path.now (λ left. left ≡ Some c.args.bytes.now)
+    (unchanged_more g.A.CrashSafe.moment g.A.CrashSafe.left_since c.args.files.now c.create_empty.new.files c.args.path.now (λ left. left ≡ Some c.args.bytes.now) created.crash)
+    (c.fill_and_persist.ensures.crash made.1 apart))
+
+pub returns-in-Ok-clause-contents : goal.returns-in-Ok-clause-contents
+returns-in-Ok-clause-contents g c = λ absent.
+    let made = c.in-Ok.ensures.created in
+    let apart = is_other c.args.dir.now (string_bytes c.in-Ok.temp_file.path) c.args.path.now made.0 absent in
+    let created = c.create_empty.ensures.others c.args.path.now absent in
+    let P : Option (List ℕ) → Type 0 = λ o. ReplacesFile o (Some c.args.bytes.now) c.fill_and_persist.result (g.A.CrashSafe.contents c.fill_and_persist.new.files c.args.path.now) in
+    subst P created.now (c.fill_and_persist.ensures.contents made.1 apart)
+
+pub returns-in-Ok-clause-others : goal.returns-in-Ok-clause-others
+returns-in-Ok-clause-others g c = λ other not_path absent.
+    let made = c.in-Ok.ensures.created in
+    untouched_twice g.A.CrashSafe.moment g.A.CrashSafe.left_since g.A.CrashSafe.contents c.args.files.now c.create_empty.new.files c.fill_and_persist.new.files other
+    (c.create_empty.ensures.others other absent)
+    (c.fill_and_persist.ensures.others made.1 other not_path (is_other c.args.dir.now (string_bytes c.in-Ok.temp_file.path) other made.0 absent))
