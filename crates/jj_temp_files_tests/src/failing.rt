@@ -15,8 +15,8 @@ enum Target {
     Whole,
 }
 
-// After `calls_left` calls, the next one fails. A file that is renamed before it was synced is
-// torn.
+// After `calls_left` calls, the next one fails with `error`, and if it stops there, as in a process
+// that is killed, so do all after it. A file that is renamed before it was synced is torn.
 #[derive(Drop)]
 struct Disk {
     has_temp: bool,
@@ -24,24 +24,30 @@ struct Disk {
     target: Target,
     mode: u32,
     calls_left: u32,
+    error: ErrorKind,
+    stops: bool,
 }
 
 impl Disk {
-    fn new(calls_left: u32) -> Disk {
+    fn new(calls_left: u32, error: ErrorKind) -> Disk {
         Disk {
             has_temp: false,
             is_synced: false,
             target: Target::Old,
             mode: 0o600,
             calls_left,
+            error,
+            stops: false,
         }
     }
 
     // Counts a call.
     fn call(&mut self) -> io::Result<()> {
         if self.calls_left == 0 {
-            self.calls_left = u32::MAX;
-            return Err(io::Error::from(ErrorKind::PermissionDenied));
+            if !self.stops {
+                self.calls_left = u32::MAX;
+            }
+            return Err(io::Error::from(self.error));
         }
         self.calls_left -= 1;
         Ok(())
@@ -132,8 +138,12 @@ impl FileAccess for Disk {
 #[test]
 fn a_failed_call_leaves_the_old_file_and_no_temporary_one(rt: HostRuntime) -> Result<(), Fail> {
     let alloc = rt.alloc();
-    for calls in 0..2u32 {
-        let mut disk = Disk::new(u32::MAX);
+    for (calls, kind) in [
+        (0, ErrorKind::PermissionDenied),
+        (0, ErrorKind::StorageFull),
+        (1, ErrorKind::StorageFull),
+    ] {
+        let mut disk = Disk::new(u32::MAX, kind);
         let mut names = TempNames::new(7);
         let temp = NamedTempFile::new_in(alloc, &mut disk, "dir", &mut names)?;
         assert_eq!(rt; temp.path(), "dir/.tmp8");
@@ -141,7 +151,7 @@ fn a_failed_call_leaves_the_old_file_and_no_temporary_one(rt: HostRuntime) -> Re
         match persist_temp_file(alloc, &mut disk, temp, "dir/target") {
             Err(PathError::Invalid { path, source }) => {
                 assert_eq!(rt; path.as_str(), "dir/target");
-                assert_eq!(rt; source.kind(), ErrorKind::PermissionDenied);
+                assert_eq!(rt; source.kind(), kind);
             }
             Err(PathError::Memory) => return Ok(()),
             Ok(()) => panic!(rt; "call {calls} failed"),
@@ -152,25 +162,59 @@ fn a_failed_call_leaves_the_old_file_and_no_temporary_one(rt: HostRuntime) -> Re
     Ok(())
 }
 
+// A full disk, in each call.
 #[test]
-fn a_persisted_file_is_whole(rt: HostRuntime) -> Result<(), Fail> {
+fn a_full_disk_leaves_no_temporary_file(rt: HostRuntime) -> Result<(), Fail> {
     let alloc = rt.alloc();
-    let mut disk = Disk::new(u32::MAX);
-    let temp = NamedTempFile::new_in(alloc, &mut disk, "dir", &mut TempNames::new(0))?;
-    persist_temp_file(alloc, &mut disk, temp, "dir/target")?;
-    assert_eq!(rt; disk.target, Target::Whole);
+    let mut disk = Disk::new(0, ErrorKind::StorageFull);
+    match NamedTempFile::new_in(alloc, &mut disk, "dir", &mut TempNames::new(0)) {
+        Ok(temp) => temp.close(alloc, &mut disk)?,
+        Err(PathError::Invalid { path, source }) => {
+            assert_eq!(rt; path.as_str(), "dir/.tmp0");
+            assert_eq!(rt; source.kind(), ErrorKind::StorageFull);
+        }
+        Err(PathError::Memory) => return Ok(()),
+    }
     assert_eq!(rt; disk.has_temp, false);
+    let mut disk = Disk::new(1, ErrorKind::StorageFull);
+    let mut temp = NamedTempFile::new_in(alloc, &mut disk, "dir", &mut TempNames::new(0))?;
+    let written = temp.write(&mut disk, b"new");
+    temp.close(alloc, &mut disk)?;
+    assert_eq!(rt; written.is_err(), true);
+    assert_eq!(rt; disk.has_temp, false);
+    Ok(())
+}
+
+// The process is killed after each call in turn.
+#[test]
+fn a_stopped_process_leaves_the_old_file_or_the_new_one(rt: HostRuntime) -> Result<(), Fail> {
+    let alloc = rt.alloc();
+    for calls in 0..4u32 {
+        let mut disk = Disk::new(u32::MAX, ErrorKind::Other);
+        let mut temp = NamedTempFile::new_in(alloc, &mut disk, "dir", &mut TempNames::new(0))?;
+        disk.stops = true;
+        disk.calls_left = calls;
+        let _ = temp.write(&mut disk, b"new");
+        let _ = persist_temp_file(alloc, &mut disk, temp, "dir/target");
+        let expected = if calls < 3 {
+            Target::Old
+        } else {
+            Target::Whole
+        };
+        assert_eq!(rt; disk.target, expected, "after {calls} calls");
+        assert_eq!(rt; disk.has_temp, calls < 3, "after {calls} calls");
+    }
     Ok(())
 }
 
 #[test]
 fn a_denied_change_of_the_mode_is_no_support(rt: HostRuntime) -> Result<(), Fail> {
     let alloc = rt.alloc();
-    let mut disk = Disk::new(2);
+    let mut disk = Disk::new(2, ErrorKind::PermissionDenied);
     let kept = check_executable_bit_support(alloc, &mut disk, "dir", &mut TempNames::new(0))?;
     assert_eq!(rt; kept, false);
     assert_eq!(rt; disk.has_temp, false);
-    let mut disk = Disk::new(u32::MAX);
+    let mut disk = Disk::new(u32::MAX, ErrorKind::Other);
     let kept = check_executable_bit_support(alloc, &mut disk, "dir", &mut TempNames::new(0))?;
     assert_eq!(rt; kept, true);
     assert_eq!(rt; disk.mode, 0o700);

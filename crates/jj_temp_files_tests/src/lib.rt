@@ -1,6 +1,8 @@
-//! Tests of temporary files, on the file system of the process and on one whose calls fail.
+//! Proved callers of temporary files, and tests on the file system of the process and on one whose
+//! calls fail.
 #![tactic(auto)]
 
+pub mod callers;
 #[cfg(test)]
 mod failing;
 #[cfg(test)]

@@ -1,0 +1,16 @@
+-- Object files, which are absent or whole after a crash.
+-- Cited by contracts of public items: IsAbsentOrWhole, StaysAbsentOrWhole.
+use Rattle.std.specs.Prelude.{ℕ, List, Option}
+use Rattle.jj_temp_files.specs.Crashes.{LeftSince, IsWholeOrAbsent}
+
+-- after a crash at this moment, the path has no file, or one with these bytes
+abbrev pub IsAbsentOrWhole : {S : Type 0} → (S → List ℕ → Option (List ℕ) → Type 0) → S → List ℕ
+    → List ℕ → Type 0
+IsAbsentOrWhole may_leave files path bytes =
+    (left : Option (List ℕ)) → may_leave files path left → IsWholeOrAbsent bytes left
+
+-- after a crash at any moment from then on, the path has no file, or one with these bytes
+abbrev pub StaysAbsentOrWhole : {S : Type 0} → (S → ℕ) → LeftSince S → S → S → List ℕ → List ℕ
+    → Type 0
+StaysAbsentOrWhole moment left_since old new path bytes = (left : Option (List ℕ))
+    → left_since new (moment old) path left → IsWholeOrAbsent bytes left

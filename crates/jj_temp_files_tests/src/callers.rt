@@ -1,0 +1,27 @@
+//! Object files, which are absent or whole.
+ghost use Rattle.std.specs.Prelude.{◌≡◌, OnOk, Some};
+ghost use Rattle.jj_temp_files.specs.TempNames.{IsNumberedPath};
+ghost use Rattle.jj_temp_files_tests.specs.Objects.{IsAbsentOrWhole, StaysAbsentOrWhole};
+
+use jj_files::file_util::PathError;
+use jj_temp_files::{CrashSafe, TempNames, write_file};
+use std::alloc::Global;
+
+/// Writes an object to the path that its content determines. If the object's file was absent or
+/// whole before, it is absent or whole after a crash at any moment; it is there after the call.
+pub fn store_object<A: CrashSafe>(
+    alloc: Global,
+    files: &mut A,
+    dir: &str,
+    names: &mut TempNames,
+    path: &str,
+    object: &[u8],
+) -> Result<(), PathError>
+    ensures crash { ¬ (IsNumberedPath dir.now path.now)
+        → IsAbsentOrWhole A.may_leave files.old path.now object.now
+        → StaysAbsentOrWhole A.moment A.left_since files.old files.new path.now object.now }
+    ensures stored { ¬ (IsNumberedPath dir.now path.now)
+        → OnOk result (A.contents files.new path.now ≡ Some object.now) }
+{
+    write_file(alloc, files, dir, names, path, object)
+}
