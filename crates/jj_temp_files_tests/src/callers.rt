@@ -1,8 +1,10 @@
 //! Object files, which are absent or whole.
-ghost use Rattle.std.specs.Prelude.{◌≡◌, OnOk, Some};
+ghost use Rattle.std.specs.Prelude.{◌≡◌, OnOk, Some, length};
 ghost use Rattle.jj_temp_files.specs.TempNames.{IsNumberedPath};
+ghost use Rattle.jj_temp_files_tests.specs.Disk.{contents_of, LeftAfter, LeftNow};
 ghost use Rattle.jj_temp_files_tests.specs.Objects.{IsAbsentOrWhole, StaysAbsentOrWhole};
 
+use crate::memory_disk::MemoryDisk;
 use jj_files::file_util::PathError;
 use jj_temp_files::{CrashSafe, TempNames, write_file};
 use std::alloc::Global;
@@ -24,4 +26,23 @@ pub fn store_object<A: CrashSafe>(
         → OnOk result (A.contents files.new path.now ≡ Some object.now) }
 {
     write_file(alloc, files, dir, names, path, object)
+}
+
+/// `store_object` in memory, where each outcome of a crash is known.
+pub fn store_in_memory(
+    alloc: Global,
+    disk: &mut MemoryDisk,
+    dir: &str,
+    names: &mut TempNames,
+    path: &str,
+    object: &[u8],
+) -> Result<(), PathError>
+    ensures crash { ¬ (IsNumberedPath dir.now path.now)
+        → IsAbsentOrWhole LeftNow disk.old.edits.items path.now object.now
+        → StaysAbsentOrWhole length LeftAfter disk.old.edits.items disk.new.edits.items
+        path.now object.now }
+    ensures stored { ¬ (IsNumberedPath dir.now path.now)
+        → OnOk result (contents_of disk.new.edits.items path.now ≡ Some object.now) }
+{
+    store_object(alloc, disk, dir, names, path, object)
 }

@@ -6,4 +6,7 @@ pub mod callers;
 #[cfg(test)]
 mod failing;
 #[cfg(test)]
+mod kills;
+pub mod memory_disk;
+#[cfg(test)]
 mod on_disk;
