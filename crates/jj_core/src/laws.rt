@@ -1,5 +1,5 @@
-//! Laws of all libraries: empty functions whose contracts state properties of definitions, for use
-//! in proofs.
+//! Laws of the libraries that this crate re-exports: empty functions whose contracts state
+//! properties of definitions, for use in proofs.
 pub use glob_grammar::laws::{
     parsed_globs_are_spelled, spelled_globs_are_parsed, spelling_is_unique,
 };

@@ -1,4 +1,5 @@
-//! Facade crate: re-exports the modules of all libraries.
+//! Facade crate: re-exports what the Rust crate has, under its names, and laws, but not what is
+//! beside it, as `jj_sqlite`.
 #![tactic(auto)]
 
 pub mod content_hash;
