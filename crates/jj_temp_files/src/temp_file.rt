@@ -216,6 +216,8 @@ pub fn persist_temp_file<A: FileAccess>(
     temp_file: NamedTempFile<A::File>,
     new_path: &str,
 ) -> Result<A::File, PathError>
+    // The data was synced and then the path renamed; if one of these failed, removing the temporary
+    // file was tried, and the error is returned with the new path.
     ensures { PersistsFile A.may_sync A.may_rename A.may_remove temp_file new_path.now
         files.old result files.new }
 {

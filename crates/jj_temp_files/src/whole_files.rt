@@ -197,9 +197,12 @@ pub fn write_file<A: CrashSafe>(
     path: &str,
     bytes: &[u8],
 ) -> Result<(), PathError>
+    // After a crash at any moment of the call, the path has what a crash before might have left, or
+    // all bytes.
     ensures any_moment { ¬ (IsNumberedPath dir.now path.now)
         → LeavesOldOr A.moment A.left_since (A.may_leave files.old path.now)
         files.old files.new path.now bytes.now }
+    // If the call succeeds, the path has all bytes; if it fails, these or the file from before.
     ensures contents { ¬ (IsNumberedPath dir.now path.now)
         → ReplacesFile (A.contents files.old path.now) (Some bytes.now) result
         (A.contents files.new path.now) }
