@@ -220,3 +220,21 @@ fn a_denied_change_of_the_mode_is_no_support(rt: HostRuntime) -> Result<(), Fail
     assert_eq!(rt; disk.mode, 0o700);
     Ok(())
 }
+
+// The path in the error is that of the temporary file, and then the directory.
+#[test]
+fn a_failed_test_of_the_bit_is_an_error(rt: HostRuntime) -> Result<(), Fail> {
+    let alloc = rt.alloc();
+    for (calls, expected) in [(0, "dir/.tmp0"), (1, "dir/.tmp0"), (2, "dir")] {
+        let mut disk = Disk::new(calls, ErrorKind::ReadOnlyFilesystem);
+        match check_executable_bit_support(alloc, &mut disk, "dir", &mut TempNames::new(0)) {
+            Err(PathError::Invalid { path, source }) => {
+                assert_eq!(rt; path.as_str(), expected, "after {calls} calls");
+                assert_eq!(rt; source.kind(), ErrorKind::ReadOnlyFilesystem);
+            }
+            Err(PathError::Memory) => return Ok(()),
+            Ok(_) => panic!(rt; "call {calls} failed"),
+        }
+    }
+    Ok(())
+}

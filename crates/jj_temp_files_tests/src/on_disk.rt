@@ -6,6 +6,7 @@ use jj_temp_files::{
     symlink_file,
 };
 use std::alloc::Global;
+use std::collections::HashSet;
 use std::fs::{File, Permissions};
 use std::io::ErrorKind;
 use std::os::unix::fs::PermissionsExt;
@@ -200,5 +201,53 @@ fn two_writers_of_one_content_succeed(rt: HostRuntime) -> Result<(), Fail> {
     assert_eq!(rt; text.as_str(), "content");
     assert_eq!(rt; count_names(&rt, "objects")?, 1);
     fs::remove_dir_all(&rt, "objects")?;
+    Ok(())
+}
+
+#[test]
+fn identities_are_those_of_files_and_of_links(rt: HostRuntime) -> Result<(), Fail> {
+    let alloc = rt.alloc();
+    let mut files = SystemFiles::new(&rt);
+    make_dir(&rt, "same")?;
+    fs::create_dir(&rt, "same/dir")?;
+    fs::create_dir(&rt, "same/other")?;
+    symlink_dir(alloc, &mut files, "dir", "same/link")?;
+    let dir = FileIdentity::from_symlink_path(alloc, &files, "same/dir")?;
+    let other = FileIdentity::from_symlink_path(alloc, &files, "same/other")?;
+    let link = FileIdentity::from_symlink_path(alloc, &files, "same/link")?;
+    let opened = FileIdentity::from_file(&files, &fs::open(&rt, "same/link")?)?;
+    let mut distinct = HashSet::new(alloc);
+    for identity in [dir, other, link, opened, dir, link] {
+        let _was_new = distinct.insert(identity)?;
+    }
+    assert_eq!(rt; distinct.len(), 3);
+    assert_eq!(rt; dir == opened, true);
+    assert_eq!(rt; dir == link, false);
+    assert_eq!(rt; dir == other, false);
+    let shown = format!(in alloc; "{dir:?}")?;
+    assert_eq!(rt; shown.starts_with("FileIdentity { device: "), true);
+    fs::remove_dir_all(&rt, "same")?;
+    Ok(())
+}
+
+// The old file is closed, and then it is open.
+#[test]
+fn an_existing_file_is_replaced(rt: HostRuntime) -> Result<(), Fail> {
+    let alloc = rt.alloc();
+    let mut files = SystemFiles::new(&rt);
+    make_dir(&rt, "existing")?;
+    fs::write(&rt, "existing/target", "old")?;
+    let temp = temp_file(alloc, &mut files, "existing", b"new")?;
+    persist_content_addressed_temp_file(alloc, &mut files, temp, "existing/target")?;
+    let text = fs::read_to_string(&rt, "existing/target")?;
+    assert_eq!(rt; text.as_str(), "new");
+    let old = fs::open(&rt, "existing/target")?;
+    let temp = temp_file(alloc, &mut files, "existing", b"newer")?;
+    persist_content_addressed_temp_file(alloc, &mut files, temp, "existing/target")?;
+    let text = fs::read_to_string(&rt, "existing/target")?;
+    assert_eq!(rt; text.as_str(), "newer");
+    let text = io::read_to_string(alloc, old)?;
+    assert_eq!(rt; text.as_str(), "new");
+    fs::remove_dir_all(&rt, "existing")?;
     Ok(())
 }
