@@ -10,6 +10,8 @@ from .sources import CRATES, FAULTS, TYPES, Source, exports, home_of, public_mod
 SHOWN = [it for it in CRATES if not it.startswith("rows") and it != "conformance"]
 TESTS = [it for it in SHOWN if is_test_support(it)]
 USED = {it for name in CRATES if not is_test_support(name) for it in CRATES[name]}
+# A function that C calls: its module may be private.
+EXPORT = re.compile(r'pub (?:unsafe )?extern "C" fn')
 # The crates whose functions are callers of the libraries: tests, what no library uses, and the walks of a store.
 CALLERS = [it for it in SHOWN if it in TESTS or it not in USED or it == "store_walks"]
 GUARANTEES = ROOT / "docs/GUARANTEES.md"
@@ -48,6 +50,8 @@ class Project:
             for item in exports(module).values():
                 if item and not isinstance(item, Source) and item.source.crate == crate and (item not in homes or item.source is module):
                     homes[item] = module
+        for item in (it for source in sources(crate) for it in source.top if it.kind == "fn" and it.public and EXPORT.match(source.text, it.start)):
+            homes.setdefault(item, modules[0])
         impls, shown = [it for source in sources(crate) for it in source.top if it.kind == "impl"], {it.name for it in homes}
         for item, module in homes.items():
             self.add(item, module, item.name)
