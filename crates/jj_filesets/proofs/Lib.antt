@@ -9,3 +9,6 @@ mod Evaluated
 mod Lexed
 mod Compiled
 mod PatternTexts
+mod BelowMatches
+mod Listed
+mod Printed

@@ -1,5 +1,5 @@
 -- Selecting the next element of a list, and the members of a selection.
-use Rattle.std.proofs.Common.{◌≡◌, ◌⊎◌, ℕ, ◌+◌, ◌<◌, List, [], ◌∷◌, ◌++◌, map, take, get_or, length, ◌∙◌, ap, subst, sym, inl, inr, Contains, arith}
+use Rattle.std.proofs.Common.{◌≡◌, ◌⊎◌, ℕ, ◌+◌, ◌<◌, List, [], ◌∷◌, ◌++◌, map, take, get_or, length, ◌∙◌, refl, ap, subst, sym, inl, inr, Contains, arith}
 use Rattle.std.specs.Prelude.{◌↔◌}
 use Rattle.std.proofs.lemmas.List.{map-append, take_more}
 use Rattle.std.proofs.lemmas.List.Elements.{Contains-append_cases, Contains-append_left, Contains-append_right, Contains-push, Contains-push_cases}
@@ -76,3 +76,13 @@ module _ {X : Type 0} (InSet : X → Type 0) where
   -- the members of a selection are those of the list that are in the set
   pub selected-members : (all some : List X) → IsSelected InSet all some → (y : X) → Contains some y ↔ (Contains all y × InSet y)
   selected-members all some is y = (to_members is y, λ h. from_members is y h.0 h.1)
+
+-- a list has one selection
+pub selection_is_unique : {X : Type 0} (InSet : X → Type 0) (all some other : List X) → IsSelected InSet all some → IsSelected InSet all other → some ≡ other
+selection_is_unique InSet [] [] [] none none = refl
+selection_is_unique {X = X} InSet [] [] (x ∷ other) empty selected = elim selected [ ]
+selection_is_unique {X = X} InSet [] (x ∷ some) other selected empty = elim selected [ ]
+selection_is_unique InSet (x ∷ all) (x' ∷ some) (x'' ∷ other) (takes inside rest) (takes also later) = ap (λ l. x ∷ l) (selection_is_unique InSet all some other rest later)
+selection_is_unique InSet (x ∷ all) (x' ∷ some) other (takes inside rest) (leaves outside later) = absurd (outside inside)
+selection_is_unique InSet (x ∷ all) some (x' ∷ other) (leaves outside rest) (takes inside later) = absurd (outside inside)
+selection_is_unique InSet (x ∷ all) some other (leaves outside rest) (leaves also later) = selection_is_unique InSet all some other rest later

@@ -1,5 +1,6 @@
 pub mod Patterns
 pub mod SyntaxTrees
+pub mod PathStrings
 pub mod Strings
 pub mod Operands
 pub mod Tokens
@@ -8,3 +9,4 @@ pub mod Programs
 pub mod Parsing
 pub mod Expressions
 pub mod Selection
+pub mod Listing

@@ -14,7 +14,8 @@ use Rattle.jj_filesets.specs.declared.fileset.operand.PatternKind.{PatternKind}
 use Rattle.jj_filesets.specs.declared.fileset.operand.PatternKind.TheVariants.{Default, Prefix, File, Glob, PrefixGlob as prefix_glob}
 use Rattle.jj_filesets.specs.declared.fileset.pattern.FilePattern.{FilePattern}
 use Rattle.jj_filesets.specs.declared.fileset.pattern.FilePattern.TheVariants.{All, Nothing, PrefixPath, FilePath, FileGlob, PrefixGlob}
-use Rattle.jj_filesets.specs.Strings.{word, string_at}
+use Rattle.jj_filesets.specs.PathStrings.{is_relative, plain_path}
+use Rattle.jj_filesets.specs.Strings.{without_space, word, string_at}
 
 -- 1. Names.
 
@@ -72,22 +73,32 @@ text_pattern prefix_glob at string = glob_pattern true at string
 text_pattern Default at string =
     if has_glob_byte string then glob_pattern true at string else path_pattern true at string
 
+-- a string that is relative and has neither `.` nor `..`
+abbrev pub relative_pattern : PatternKind → ℕ → List ℕ → Result FilePattern FilesetParseError
+relative_pattern kind at string =
+    if is_relative string then text_pattern kind at string else Err (Syntax at InvalidPath)
+
 unfoldable pub pattern_of : PatternKind → ℕ → List ℕ → Result FilePattern FilesetParseError
 pattern_of kind at string =
-    if is_utf8 string then text_pattern kind at string else Err (Syntax at NotUtf8)
+    if is_utf8 string then relative_pattern kind at string else Err (Syntax at NotUtf8)
 
 -- 3. The operand at the start of a string, and the rest of the string.
 
 unfoldable pub string_pattern_at : ℕ → PatternKind → List ℕ
     → Result (FilePattern × List ℕ) FilesetParseError
 string_pattern_at total kind text = string_at total text >>= λ string.
-    pattern_of kind (total - length text) string.0 >>= λ pattern. Ok (pattern, string.1)
+    pattern_of kind (total - length text) (plain_path string.0) >>= λ pattern.
+    Ok (pattern, string.1)
+
+-- the closing parenthesis of a function, which has no arguments
+abbrev pub closed_at : ℕ → FilePattern → List ℕ → Result (FilePattern × List ℕ) FilesetParseError
+closed_at total pattern [] = Err (Syntax (total - 0) InvalidArguments)
+closed_at total pattern (b ∷ bs) =
+    if b == 41 then Ok (pattern, bs) else Err (Syntax (total - length (b ∷ bs)) InvalidArguments)
 
 -- the arguments of a function after the opening parenthesis
 abbrev pub arguments_at : ℕ → FilePattern → List ℕ → Result (FilePattern × List ℕ) FilesetParseError
-arguments_at total pattern [] = Err (Syntax (total - 0) InvalidArguments)
-arguments_at total pattern (b ∷ bs) =
-    if b == 41 then Ok (pattern, bs) else Err (Syntax (total - length (b ∷ bs)) InvalidArguments)
+arguments_at total pattern text = closed_at total pattern (without_space text)
 
 abbrev pub call_of : ℕ → ℕ → Option FilePattern → List ℕ
     → Result (FilePattern × List ℕ) FilesetParseError

@@ -29,6 +29,11 @@ IsResultOf view (Err error) read = Fails error read
 abbrev pub is_space : ℕ → Bool
 is_space b = (nat_le 9 b && nat_le b 13) || b == 32
 
+-- the string without the white space before it
+abbrev pub without_space : List ℕ → List ℕ
+without_space [] = []
+without_space (b ∷ bs) = if is_space b then without_space bs else b ∷ bs
+
 -- none of white space and `( ) | & ~ : " '`
 abbrev pub is_word_byte : ℕ → Bool
 is_word_byte b = not (is_space b) && not (b == 40) && not (b == 41) && not (b == 124)

@@ -12,5 +12,6 @@ mod token;
 
 pub use error::{FilesetParseError, FilesetParseErrorKind};
 pub use evaluator::files_in;
+pub(crate) use evaluator::is_file_in;
 pub use pattern::FilePattern;
 pub use program::FilesetExpression;

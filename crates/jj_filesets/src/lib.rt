@@ -3,3 +3,5 @@
 
 pub mod fileset;
 pub mod laws;
+pub mod listing;
+mod path_string;

@@ -19,10 +19,10 @@ pub enum FilesetParseErrorKind {
     #[error("expected a string")]
     ExpectedString,
     /// An unknown word before a colon.
-    #[error("unknown kind of pattern")]
+    #[error("unknown kind of pattern; a path with a colon is in quotes")]
     InvalidPatternKind,
     /// An unknown word before a parenthesis.
-    #[error("unknown function")]
+    #[error("unknown function; a path with parentheses is in quotes")]
     NoSuchFunction,
     /// A function that is called with an argument; at the argument.
     #[error("expected no arguments")]
@@ -30,8 +30,9 @@ pub enum FilesetParseErrorKind {
     /// A string with `\x` escapes that is not UTF-8.
     #[error("string is not UTF-8")]
     NotUtf8,
-    /// A string that is no repository path.
-    #[error("invalid path")]
+    /// A string that is no path relative to the root, after `./` at its start and `/` at its end
+    /// are dropped: absolute, or with an empty name, `.` or `..`.
+    #[error("expected a path relative to the root, as a/b")]
     InvalidPath,
     /// A string that is no glob.
     #[error("invalid glob: {0}")]
@@ -40,7 +41,7 @@ pub enum FilesetParseErrorKind {
     #[error("expected an operand")]
     ExpectedOperand,
     /// An operand or an opening parenthesis after an operand.
-    #[error("expected an operator")]
+    #[error("expected an operator; a path with blanks is in quotes")]
     ExpectedOperator,
     /// A closing parenthesis without an opening one.
     #[error("unopened parenthesis")]

@@ -34,7 +34,8 @@ pub fn files_in<'a>(
     Ok(found)
 }
 
-fn is_file_in(
+// Whether the file is in the set and not the root. The stack is cleared.
+pub(crate) fn is_file_in(
     file: RepoPath<'_>,
     expression: &FilesetExpression,
     stack: &mut Vec<bool>,

@@ -1,11 +1,12 @@
 //! Operands of an expression: strings with a kind of pattern, and functions.
 ghost use Rattle.std.specs.Prelude.{◌≡◌, ◌<◌, ◌≤◌, length, IfOk};
 ghost use Rattle.jj_filesets.specs.Strings.{IsResultOf};
-ghost use Rattle.jj_filesets.specs.Operands.{kind_named, function_named, has_glob_byte, is_glob_byte, operand_at, call_at, string_pattern_at, pattern_of, text_pattern, path_pattern, glob_pattern};
+ghost use Rattle.jj_filesets.specs.Operands.{kind_named, function_named, has_glob_byte, is_glob_byte, operand_at, call_at, string_pattern_at, pattern_of, relative_pattern, text_pattern, path_pattern, glob_pattern};
 
 use crate::fileset::FilePattern;
 use crate::fileset::error::{FilesetParseError, FilesetParseErrorKind};
-use crate::fileset::quoting::{read_string, split_word};
+use crate::fileset::quoting::{read_string, skip_space, split_word};
+use crate::path_string::{is_relative, plain_path};
 use jj_globs::glob::{Glob, GlobError};
 use jj_paths::repo_path::{InvalidNewRepoPathError, RepoPathBuf};
 use std::alloc::Global;
@@ -60,6 +61,7 @@ fn read_call<'a>(
     let Some(pattern) = function_named(name) else {
         return Err(FilesetParseError::new(at, FilesetParseErrorKind::NoSuchFunction));
     };
+    let text = skip_space(text);
     match text.split_first() {
         Some((b')', rest)) => Ok((pattern, rest)),
         _ => Err(FilesetParseError::new(
@@ -84,7 +86,7 @@ fn read_pattern<'a>(
 {
     let at = total - text.len();
     let (string, rest) = read_string(alloc, total, text)?;
-    let pattern = pattern_of(alloc, kind, at, &string)?;
+    let pattern = pattern_of(alloc, kind, at, plain_path(&string))?;
     Ok((pattern, rest))
 }
 
@@ -126,8 +128,23 @@ fn pattern_of(
     ensures { IsResultOf (λ pattern. pattern) result (pattern_of kind at string.now) }
 {
     match str::from_utf8(string) {
-        Ok(text) => text_pattern(alloc, kind, at, text),
+        Ok(text) => relative_pattern(alloc, kind, at, text),
         Err(_) => Err(FilesetParseError::new(at, FilesetParseErrorKind::NotUtf8)),
+    }
+}
+
+fn relative_pattern(
+    alloc: Global,
+    kind: PatternKind,
+    at: usize,
+    text: &str,
+) -> Result<FilePattern, FilesetParseError>
+    ensures { IsResultOf (λ pattern. pattern) result (relative_pattern kind at text.now) }
+{
+    if is_relative(text.as_bytes()) {
+        text_pattern(alloc, kind, at, text)
+    } else {
+        Err(FilesetParseError::new(at, FilesetParseErrorKind::InvalidPath))
     }
 }
 

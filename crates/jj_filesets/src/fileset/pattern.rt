@@ -1,7 +1,7 @@
 //! Patterns, the operands of expressions.
 ghost use Rattle.std.specs.Prelude.{◌↔◌, IsTrue};
 ghost use Rattle.jj_paths.specs.Names.{path_of};
-ghost use Rattle.jj_filesets.specs.Patterns.{Matches};
+ghost use Rattle.jj_filesets.specs.Patterns.{IsBelowMatch, Matches};
 
 use jj_globs::glob::Glob;
 use jj_paths::repo_path::{RepoPath, RepoPathBuf};
@@ -37,9 +37,14 @@ impl FilePattern {
             FilePattern::FileGlob(glob) => {
                 glob.is_match(path.as_internal_file_string().as_bytes())
             }
-            FilePattern::PrefixGlob(glob) => {
-                glob.is_prefix_match(path.as_internal_file_string().as_bytes())
-            }
+            FilePattern::PrefixGlob(glob) => is_below_match(glob, path),
         }
     }
+}
+
+// Whether the glob matches the path or one of its ancestors. No slash follows the root.
+fn is_below_match(glob: &Glob, path: RepoPath<'_>) -> bool
+    ensures { IsTrue result ↔ IsBelowMatch glob.now (path_of path.entry) }
+{
+    glob.is_prefix_match(path.as_internal_file_string().as_bytes()) || glob.is_match(b"")
 }

@@ -1,6 +1,6 @@
 //! Strings of an expression: words, quoted strings with escapes, and raw strings.
 ghost use Rattle.std.specs.Prelude.{◌≡◌, ◌<◌, ◌≤◌, ◌+◌, ◌*◌, ◌%◌, length, IfOk};
-ghost use Rattle.jj_filesets.specs.Strings.{is_space, is_word_byte, word, quoted, quoted_byte, escaped_byte, hex_value, raw, string_at, IsResultOf};
+ghost use Rattle.jj_filesets.specs.Strings.{is_space, is_word_byte, without_space, word, quoted, quoted_byte, escaped_byte, hex_value, raw, string_at, IsResultOf};
 
 use crate::fileset::error::{FilesetParseError, FilesetParseErrorKind};
 use std::alloc::Global;
@@ -27,6 +27,21 @@ pub(crate) fn is_space(byte: u8) -> bool
     ensures { result ≡ is_space byte }
 {
     matches!(byte, 9..=13 | b' ')
+}
+
+// Skips the white space at the start.
+pub(crate) fn skip_space(text: &[u8]) -> &[u8]
+    ensures rest { result.now ≡ without_space text.now }
+    ensures length { length result.now ≤ length text.now }
+{
+    let mut rest = text;
+    while let Some((byte, after)) = rest.split_first() {
+        if !is_space(*byte) {
+            break;
+        }
+        rest = after;
+    }
+    rest
 }
 
 // A byte that is no white space, symbol, quote or colon.
