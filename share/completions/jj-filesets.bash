@@ -1,6 +1,9 @@
 # Completion of jj-filesets for bash: an expression is often a path.
 _jj_filesets() {
-    COMPREPLY=()
-    [ "$COMP_CWORD" -eq 1 ] && mapfile -t COMPREPLY < <(compgen -W 'all() none()' -f -- "${COMP_WORDS[COMP_CWORD]}")
+    local word=${COMP_WORDS[COMP_CWORD]}
+    case $word in
+        -*) mapfile -t COMPREPLY < <(compgen -W '-z --null --skip-invalid --fail-if-none --help --version' -- "$word") ;;
+        *) mapfile -t COMPREPLY < <(compgen -W 'all() none()' -f -- "$word") ;;
+    esac
 }
 complete -F _jj_filesets jj-filesets

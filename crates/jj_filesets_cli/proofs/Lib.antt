@@ -1,1 +1,1 @@
-mod ReadLines
+mod NextWord

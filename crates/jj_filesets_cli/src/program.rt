@@ -1,51 +1,64 @@
-//! The engine of the program: reads the whole input, selects lines, writes the whole output.
-ghost use Rattle.std.specs.Prelude.{◌≡◌, ◌≢◌, ℕ, ◌+◌, false, List, ◌∷◌, ◌++◌, map, length, IfOk, IfErr, OnOk};
+//! A run: reads the whole input, selects lines, writes the whole output.
+ghost use Rattle.std.specs.Prelude.{◌≡◌, ◌≢◌, false, IfOk, IfErr, OnOk, string_bytes};
 ghost use Rattle.std.specs.Io.KnownBytes.{Consumes, IsAtEnd};
 ghost use Rattle.jj_files.specs.Streams.{streams};
-ghost use Rattle.jj_paths.specs.Names.{path_of};
-ghost use Rattle.jj_paths.specs.Paths.{components};
 ghost use Rattle.jj_filesets.specs.Expressions.{Spells};
-ghost use Rattle.jj_filesets_cli.specs.Lines.{lines_of, paths_of, path_lines, PrintsSet};
-ghost use Rattle.jj_filesets_cli.specs.Runs.{WritesSet, FailsBy, IsExpressionFault, IsInputFault, is_read_fault, is_write_fault};
+ghost use Rattle.jj_filesets_cli.specs.Runs.{WritesSet, IsSelection, FailsBy, IsExpressionFault, IsInputFault, is_read_fault, is_write_failure, is_write_fault, place_at};
 ghost use Rattle.jj_filesets_cli.specs.declared.fault.Fault.{Fault};
 
 use crate::fault::Fault;
+use jj_excerpts::excerpt;
 use jj_files::file_util::{Sink, Source, write_all};
-use jj_filesets::fileset::{FilesetExpression, FilesetParseError, files_in};
-use jj_paths::repo_path::{InvalidNewRepoPathError, RepoPath};
+use jj_filesets::fileset::{FilesetExpression, FilesetParseError};
+use jj_filesets::listing::{ListError, ListOptions, SelectedLines, select_lines};
 use std::alloc::{AllocError, Global};
+use std::io::ErrorKind;
 
 // Bytes per read.
 const READ_BUFFER: usize = 65536;
 
-// Parses the expression, reads paths line by line to the end of the source, and writes those that
-// are in the set. Nothing is written unless the whole input is valid.
+// A run that succeeded: whether no line is in the set, and how many lines are no paths.
+#[derive(Clone, Copy)]
+pub(crate) struct Outcome {
+    pub(crate) is_empty: bool,
+    pub(crate) invalid: usize,
+}
+
+// Parses the expression, reads a list to the end of the source, and writes its lines that are in
+// the set. Nothing is written unless the whole input is valid.
 pub(crate) fn run<R: Source, W: Sink>(
     alloc: Global,
     expression: &str,
+    options: ListOptions,
     reader: &mut R,
     writer: &mut W,
-) -> Result<(), Fault>
+) -> Result<Outcome, Fault>
     requires reader_works { R.has_failed reader.old ≡ false }
     requires writer_works { W.has_failed writer.old ≡ false }
-    ensures done { OnOk result (WritesSet expression.now
+    ensures done { IfOk result (λ outcome. WritesSet expression.now options
         (streams (R.remaining reader.old) (W.contents writer.old))
-        (streams (R.remaining reader.new) (W.contents writer.new))) }
-    ensures unwritten { IfErr result (λ fault. fault ≢ Fault.WriteOutput
+        (streams (R.remaining reader.new) (W.contents writer.new))
+        outcome.is_empty outcome.invalid) }
+    ensures unwritten { IfErr result (λ fault. is_write_failure fault ≡ false
         → W.contents writer.new ≡ W.contents writer.old) }
-    ensures fails { IfErr result (FailsBy expression.now
+    ensures fails { IfErr result (FailsBy expression.now options
         (streams (R.remaining reader.old) (W.contents writer.old))
         (streams (R.remaining reader.new) (W.contents writer.new))) }
     ensures read_failure { R.has_failed reader.new ≡ is_read_fault result }
     ensures write_failure { W.has_failed writer.new ≡ is_write_fault result }
 {
-    let expression = parse_expression(alloc, expression)?;
+    let set = parse_expression(alloc, expression)?;
     let input = read_input(alloc, reader)?;
-    let output = selected_lines(alloc, &expression, &input)?;
-    if write_all(writer, &output).is_err() {
-        return Err(Fault::WriteOutput);
+    let selected = select(alloc, &set, options, &input)?;
+    if let Err(error) = write_all(writer, &selected.output) {
+        return Err(Fault::WriteOutput {
+            is_closed: error.kind() == ErrorKind::BrokenPipe,
+        });
     }
-    Ok(())
+    Ok(Outcome {
+        is_empty: selected.output.is_empty(),
+        invalid: selected.invalid,
+    })
 }
 
 fn parse_expression(alloc: Global, text: &str) -> Result<FilesetExpression, Fault>
@@ -55,7 +68,21 @@ fn parse_expression(alloc: Global, text: &str) -> Result<FilesetExpression, Faul
     match FilesetExpression::parse(alloc, text) {
         Ok(expression) => Ok(expression),
         Err(FilesetParseError::Memory) => Err(Fault::Memory),
-        Err(error) => Err(Fault::Expression(error)),
+        Err(FilesetParseError::Syntax { at, kind }) => match place_at(alloc, text.as_bytes(), at) {
+            Ok(place) => Err(Fault::Expression { at, place, kind }),
+            Err(AllocError) => Err(Fault::Memory),
+        },
+    }
+}
+
+// Quotes the expression from the offset on.
+fn place_at(alloc: Global, expression: &[u8], at: usize) -> Result<String, AllocError>
+    ensures { IfOk result (λ place. string_bytes place ≡ place_at expression.now at) }
+{
+    if at < expression.len() {
+        excerpt(alloc, &expression[at..])
+    } else {
+        String::from_str(alloc, "the end")
     }
 }
 
@@ -82,63 +109,19 @@ fn read_input<R: Source>(alloc: Global, reader: &mut R) -> Result<Vec<u8>, Fault
     }
 }
 
-// Returns the lines of the input that are paths in the set.
-fn selected_lines(
+fn select(
     alloc: Global,
-    expression: &FilesetExpression,
+    set: &FilesetExpression,
+    options: ListOptions,
     input: &[u8],
-) -> Result<Vec<u8>, Fault>
-    ensures prints { IfOk result (λ output. PrintsSet expression.now input.now output.items) }
-    ensures error { IfErr result (IsInputFault input.now) }
+) -> Result<SelectedLines, Fault>
+    ensures selection { IfOk result (λ selected.
+        IsSelection set.now options input.now selected.output.items selected.invalid) }
+    ensures error { IfErr result (IsInputFault options input.now) }
 {
-    let Ok(text) = str::from_utf8(input) else {
-        return Err(Fault::NotUtf8);
-    };
-    let paths = read_paths(alloc, text)?;
-    let found = files_in(alloc, &paths, expression)?;
-    Ok(path_lines(alloc, &found)?)
-}
-
-// Parses each line; an empty line, and the end after the last line feed, is the root.
-fn read_paths(alloc: Global, text: &str) -> Result<Vec<RepoPath<'_>>, Fault>
-    ensures paths { IfOk result (λ paths. map path_of paths.items ≡ paths_of text.now) }
-    ensures error { IfErr result (IsInputFault text.now) }
-{
-    // Each line but the last ends in a byte of the input, so the number does not overflow.
-    let _len = text.len();
-    let mut paths = Vec::new(alloc);
-    let mut rest = text;
-    let mut line = 1;
-    while let Some((path, later)) = rest.split_once('\n') {
-        paths.push(read_path(alloc, line, path)?)?;
-        rest = later;
-        line += 1;
+    match select_lines(alloc, set, options, input) {
+        Ok(selected) => Ok(selected),
+        Err(ListError::Memory) => Err(Fault::Memory),
+        Err(error) => Err(Fault::List(error)),
     }
-    paths.push(read_path(alloc, line, rest)?)?;
-    Ok(paths)
-}
-
-fn read_path(alloc: Global, line: usize, text: &str) -> Result<RepoPath<'_>, Fault>
-    ensures path { IfOk result (λ path. path_of path ≡ components text.now) }
-    ensures error { IfErr result (λ fault. (input : List ℕ) (above below : List (List ℕ))
-        → lines_of input ≡ above ++ text.now ∷ below → line ≡ length above + 1
-        → IsInputFault input fault) }
-{
-    match RepoPath::from_internal_string(alloc, text) {
-        Ok(path) => Ok(path),
-        Err(InvalidNewRepoPathError::Memory) => Err(Fault::Memory),
-        Err(InvalidNewRepoPathError::Invalid { value: _ }) => Err(Fault::BadPath { line }),
-    }
-}
-
-// Returns the paths, each with a line feed after it.
-fn path_lines(alloc: Global, paths: &[RepoPath<'_>]) -> Result<Vec<u8>, AllocError>
-    ensures { IfOk result (λ output. output.items ≡ path_lines (map path_of paths.now)) }
-{
-    let mut output = Vec::new(alloc);
-    for path in paths {
-        output.extend_from_slice(path.as_internal_file_string().as_bytes())?;
-        output.push(b'\n')?;
-    }
-    Ok(output)
 }

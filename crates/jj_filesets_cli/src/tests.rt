@@ -36,7 +36,7 @@ fn listed(alloc: Global, paths: &[RepoPath<'_>]) -> Result<String, Fail> {
 }
 
 // Each expression, and its set or its error.
-static SETS: [(&str, &str); 24] = [
+static SETS: [(&str, &str); 33] = [
     ("src/** & ~tests", "src/lib.rs;src/a/b.rs;"),
     ("all() ~ src", "tests/t.rs;a b;README.md;all;"),
     ("none()", ""),
@@ -53,16 +53,46 @@ static SETS: [(&str, &str); 24] = [
         r#""""#,
         "src/lib.rs;src/a/b.rs;tests/t.rs;a b;README.md;all;",
     ),
+    ("{}", "src/lib.rs;src/a/b.rs;tests/t.rs;a b;README.md;all;"),
+    (
+        r#"prefix-glob:"""#,
+        "src/lib.rs;src/a/b.rs;tests/t.rs;a b;README.md;all;",
+    ),
+    (r#"glob:"""#, ""),
+    ("all( \t) & ./src/", "src/lib.rs;src/a/b.rs;"),
+    (".", "src/lib.rs;src/a/b.rs;tests/t.rs;a b;README.md;all;"),
+    ("glob:./src/*.rs", "src/lib.rs;"),
+    (
+        "../src",
+        "at 0: expected a path relative to the root, as a/b",
+    ),
+    (
+        "src | /a",
+        "at 6: expected a path relative to the root, as a/b",
+    ),
+    (
+        "glob:/*",
+        "at 5: expected a path relative to the root, as a/b",
+    ),
     ("", "at 0: expected an operand"),
     ("src &", "at 5: expected an operand"),
-    ("src ( tests", "at 4: expected an operator"),
+    (
+        "src ( tests",
+        "at 4: expected an operator; a path with blanks is in quotes",
+    ),
     ("all(src)", "at 4: expected no arguments"),
-    ("some()", "at 0: unknown function"),
-    ("cwd:src", "at 0: unknown kind of pattern"),
+    (
+        "some()",
+        "at 0: unknown function; a path with parentheses is in quotes",
+    ),
+    (
+        "cwd:src",
+        "at 0: unknown kind of pattern; a path with a colon is in quotes",
+    ),
     ("src | (tests", "at 6: unclosed parenthesis"),
     ("src)", "at 3: unopened parenthesis"),
     (r#""\q""#, "at 2: invalid escape"),
-    ("a//b", "at 0: invalid path"),
+    ("a//b", "at 0: expected a path relative to the root, as a/b"),
     ("src | file: tests", "at 11: expected a string"),
 ];
 
