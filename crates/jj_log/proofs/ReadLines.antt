@@ -151,7 +151,7 @@ faults_more front part later whole is good (Line number kind) (before, line, aft
 )
 faults_more front part later whole is good ReadInput fails = absurd fails
 faults_more front part later whole is good NotUtf8 fails = absurd fails
-faults_more front part later whole is good WriteOutput fails = absurd fails
+faults_more front part later whole is good (WriteOutput is_closed) fails = absurd fails
 
 pub fault_of_line : (input rest : List ℕ) (number : ℕ) (old : List Commit) (before line : List ℕ) (left : List (ℕ × List ℕ)) → IsParsing input rest number old before
     → numbered_lines number (parts_of 10 rest) ≡ numbered_line number line ++ left → (fault : Fault) → IsFaultOf (numbered_line number line) fault → IsParseFault input fault
@@ -163,7 +163,7 @@ line_fault number line Memory other is = tt
 line_fault number line (Line at kind) other (same, bad) = ([], line, [], rw (one_line number line other, same) refl, All-nil HasCommit, bad)
 line_fault number line ReadInput other is = absurd is
 line_fault number line NotUtf8 other is = absurd is
-line_fault number line WriteOutput other is = absurd is
+line_fault number line (WriteOutput is_closed) other is = absurd is
 
 pub not_from : (b : Bool) → (b ≡ true → ⊥) → not b ≡ true
 not_from true other = absurd (other refl)

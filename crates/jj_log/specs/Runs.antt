@@ -28,7 +28,7 @@ is_read_failure ReadInput = true
 is_read_failure fault = false
 
 abbrev pub is_write_failure : Fault → Bool
-is_write_failure WriteOutput = true
+is_write_failure (WriteOutput is_closed) = true
 is_write_failure fault = false
 
 -- a run ended with a failed read
@@ -60,6 +60,6 @@ IsInputFault input fault = IsParseFault input fault
 abbrev pub FailsBy : Streams → Streams → Fault → Type 0
 FailsBy old new ReadInput = Unit {0}
 FailsBy old new Memory = Unit {0}
-FailsBy old new WriteOutput = (input drawing : List ℕ) × ReadsAll old new input
+FailsBy old new (WriteOutput is_closed) = (input drawing : List ℕ) × ReadsAll old new input
     × DrawsInput input drawing × AppendsPrefixOf old.written new.written drawing
 FailsBy old new fault = (input : List ℕ) × ReadsAll old new input × IsInputFault input fault

@@ -1,6 +1,6 @@
 //! Error types of the log.
 ghost use Rattle.std.specs.Prelude.{◌≡◌, ◌++◌, Some};
-ghost use Rattle.jj_log.specs.Reports.{fault_text, line_fault_text};
+ghost use Rattle.jj_log.specs.Reports.{fault_text, is_closed_output, line_fault_text};
 ghost use Rattle.jj_log.specs.declared.fault.Fault.{Fault};
 ghost use Rattle.jj_log.specs.declared.fault.LogError.{LogError};
 
@@ -44,7 +44,8 @@ pub enum Fault {
     ReadInput,
     NotUtf8,
     Memory,
-    WriteOutput,
+    /// `is_closed` is whether the reader of the output has closed it.
+    WriteOutput { is_closed: bool },
     Line { line: usize, kind: LineFault },
 }
 
@@ -56,8 +57,8 @@ impl LineFault {
         ensures { result.now ≡ line_fault_text self }
     {
         match self {
-            LineFault::MissingParents => "no TAB after the name",
-            LineFault::BadName => "bad name",
+            LineFault::MissingParents => "no TAB after the name; TABs separate fields",
+            LineFault::BadName => "no name, or one with a blank",
             LineFault::RepeatedName => "repeated name",
             LineFault::Cycle => "cycle of parents",
             LineFault::TooWide => "more than 500 columns",
@@ -66,6 +67,13 @@ impl LineFault {
 }
 
 impl Fault {
+    // Whether the reader of the output has closed it.
+    pub(crate) fn is_closed_output(self) -> bool
+        ensures { result ≡ is_closed_output self }
+    {
+        matches!(self, Fault::WriteOutput { is_closed: true })
+    }
+
     // The message as four parts to be concatenated; a number is formatted into `digits`.
     pub(crate) fn as_parts(self, digits: &mut Buffer) -> (&str, &str, &str, &str)
         ensures { result.0.now ++ result.1.now ++ result.2.now ++ result.3.now ≡ fault_text self }
@@ -74,7 +82,7 @@ impl Fault {
             Fault::ReadInput => ("cannot read input", "", "", ""),
             Fault::NotUtf8 => ("input is not UTF-8", "", "", ""),
             Fault::Memory => ("out of memory", "", "", ""),
-            Fault::WriteOutput => ("cannot write output", "", "", ""),
+            Fault::WriteOutput { is_closed: _ } => ("cannot write output", "", "", ""),
             Fault::Line { line, kind } => ("line ", digits.format(line), ": ", kind.as_str()),
         }
     }

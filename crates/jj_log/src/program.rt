@@ -15,6 +15,7 @@ use crate::log::draw_log;
 use itoa::Buffer;
 use jj_files::file_util::{Sink, Source, write_all};
 use std::alloc::Global;
+use std::io::ErrorKind;
 
 const READ_BUFFER: usize = 65536;
 
@@ -90,7 +91,7 @@ pub fn run<R: Source, W: Sink>(alloc: Global, reader: &mut R, writer: &mut W) ->
     ensures done { OnOk result (WritesLog
         (streams (R.remaining reader.old) (W.contents writer.old))
         (streams (R.remaining reader.new) (W.contents writer.new))) }
-    ensures unwritten { IfErr result (λ fault. fault ≢ Fault.WriteOutput
+    ensures unwritten { IfErr result (λ fault. is_write_failure fault ≡ false
         → W.contents writer.new ≡ W.contents writer.old) }
     ensures fails { IfErr result (FailsBy
         (streams (R.remaining reader.old) (W.contents writer.old))
@@ -102,8 +103,10 @@ pub fn run<R: Source, W: Sink>(alloc: Global, reader: &mut R, writer: &mut W) ->
 {
     let input = read_input(alloc, reader)?;
     let output = output(alloc, &input)?;
-    if write_all(writer, output.as_bytes()).is_err() {
-        return Err(Fault::WriteOutput);
+    if let Err(error) = write_all(writer, output.as_bytes()) {
+        return Err(Fault::WriteOutput {
+            is_closed: error.kind() == ErrorKind::BrokenPipe,
+        });
     }
     Ok(())
 }
@@ -120,17 +123,22 @@ fn write_parts<E: Sink>(errors: &mut E, parts: &[&str])
     }
 }
 
+// Reports nothing if the reader of the output has closed it, as `head` does.
 fn report_fault<E: Sink>(errors: &mut E, fault: Fault)
     ensures { Reports (E.contents errors.old) (E.contents errors.new) (E.has_failed errors.new)
         (report_text fault) }
 {
+    if fault.is_closed_output() {
+        return;
+    }
     let mut digits = Buffer::new();
     let (first, second, third, fourth) = fault.as_parts(&mut digits);
     write_parts(errors, &["jj-log: ", first, second, third, fourth, "\n"]);
 }
 
 /// Runs the program, and returns its exit status: 0, or 1 after a fault, with a line about it on
-/// `errors`. Error reporting does not allocate; a failing `errors` does not change the status.
+/// `errors` unless the output was closed. Error reporting does not allocate; a failing `errors`
+/// does not change the status.
 pub fn start<R: Source, W: Sink, E: Sink>(
     alloc: Global,
     reader: &mut R,
@@ -147,7 +155,7 @@ pub fn start<R: Source, W: Sink, E: Sink>(
     ensures failure { result ≡ 1 → (fault : Fault) × FailsBy
         (streams (R.remaining reader.old) (W.contents writer.old))
         (streams (R.remaining reader.new) (W.contents writer.new)) fault
-        × (fault ≢ Fault.WriteOutput → W.contents writer.new ≡ W.contents writer.old)
+        × (is_write_failure fault ≡ false → W.contents writer.new ≡ W.contents writer.old)
         × (R.has_failed reader.old ≡ false → R.has_failed reader.new ≡ is_read_failure fault)
         × (W.has_failed writer.old ≡ false → W.has_failed writer.new ≡ is_write_failure fault)
         × Reports (E.contents errors.old) (E.contents errors.new) (E.has_failed errors.new)
