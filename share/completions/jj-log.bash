@@ -1,2 +1,2 @@
-# Completion of jj-log for bash: it takes no arguments.
-complete -W '' jj-log
+# Completion of jj-log for bash.
+complete -W '--help --version' jj-log

@@ -1,2 +1,4 @@
-# Completion of jj-log for fish: it takes no arguments.
+# Completion of jj-log for fish.
 complete -c jj-log -f
+complete -c jj-log -s h -l help -d 'print help'
+complete -c jj-log -s V -l version -d 'print the version'

@@ -1,2 +1,4 @@
 #compdef jj-log
-_message 'no arguments; commits are read from standard input'
+_arguments \
+    '(-h --help)'{-h,--help}'[print help]' \
+    '(-V --version)'{-V,--version}'[print the version]'
