@@ -172,7 +172,8 @@ class Module:
                 continue
             if unfinished:
                 unfinished = not bare.endswith("where")
-                stack[-1] = (stack[-1][0], f"{stack[-1][1]} {bare.removesuffix('where').strip()}")
+                inner = indent + 2 if bare == "where" else stack[-1][0]
+                stack[-1] = (inner, f"{stack[-1][1]} {bare.removesuffix('where').strip()}")
                 continue
             while indent < stack[-1][0]:
                 stack.pop()
