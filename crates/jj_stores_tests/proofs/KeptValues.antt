@@ -1,14 +1,15 @@
 -- Values that stay stored across writes and garbage collection, and what their reads return.
 use Rattle.std.proofs.Common.{◌≡◌, inl, inr, ℕ, Bool, true, false, cond, List, [], ◌∷◌, Option, Some, None, Result, Ok, Err, refl, sym, ap, subst, ◌∙◌}
-use Rattle.std.proofs.lemmas.List.Elements.{Contains-push}
+use Rattle.std.proofs.lemmas.List.Elements.{Contains-append_right, Contains-push}
 use Rattle.std.specs.Bool.{MatchBool}
 use Rattle.std.specs.Cmp.{IsEquivalence, first_so, second_so}
 use Rattle.std.specs.Cmp.Lexicographic.{bytes_decides, pointwise, pointwise_decides, same_text}
-use Rattle.std.specs.Prelude.{Contains, IfOk, IfErr, IsSomeAnd}
+use Rattle.std.specs.Prelude.{Contains, IfOk, IfErr, IsErr, IsSomeAnd}
 use Rattle.std.specs.Str.{bytes_eq}
 use Rattle.jj_backend.specs.Objects.{ById}
+use Rattle.jj_backend.specs.declared.backend.timestamp.MillisSinceEpoch.{MillisSinceEpoch}
 use Rattle.jj_stores.specs.OperationLaws.{operation_eq}
-use Rattle.jj_stores.specs.OpStores.{AddsEqual, IsReachable, IsReachableView, ReadsEqual, RemovesOthers}
+use Rattle.jj_stores.specs.OpStores.{AddsEqual, IsKeptOperation, IsKeptView, IsReachable, LacksOthers, ReadsEqual, RemovesOthers, Times}
 use Rattle.jj_stores.specs.OpStores.IsReachable.{head, parent}
 use Rattle.jj_stores.specs.declared.op_store.errors.OpStoreError.{OpStoreError}
 use Rattle.jj_stores.specs.declared.op_store.operation.Operation.{Operation}
@@ -54,7 +55,8 @@ module _ {V : Type 0} (eq : V → V → Bool) (May : OpStoreError → Type 0) (f
 
 -- ---- an operation is written, and then garbage is collected with this operation as the head
 
-module _ (old new : ById Operation) (id : List ℕ) (value : Operation) (added : AddsEqual operation_eq old new id value) (heads : List (List ℕ)) (is : heads ≡ id ∷ []) where
+module _ (old new : ById Operation) (id : List ℕ) (value : Operation) (added : AddsEqual operation_eq old new id value)
+    (root : List ℕ) (heads : List (List ℕ)) (is : heads ≡ id ∷ []) (times : Times) (time : MillisSinceEpoch) where
   -- an equal operation has the same view and the same parents
   same_view : added.0.view_id ≡ value.view_id
   same_view = same_text _ _ (sym (first_so (bytes_eq added.0.view_id value.view_id) _ added.1))
@@ -64,17 +66,22 @@ module _ (old new : ById Operation) (id : List ℕ) (value : Operation) (added :
       let rest = second_so (bytes_eq added.0.view_id value.view_id) _ added.1 in
       (pointwise_decides bytes_decides _ _).0 (first_so (pointwise bytes_eq added.0.parents.items value.parents.items) _ rest)
 
-  itself : IsReachable new heads id
-  itself = head (subst (λ l. Contains l id) (sym is) (Contains-push [] id))
+  itself : IsReachable new (root ∷ heads) id
+  itself = head (Contains-append_right (root ∷ []) heads id (subst (λ l. Contains l id) (sym is) (Contains-push [] id)))
 
   -- its parents stay stored
-  pub parent_kept : (after : ById Operation) → RemovesOthers (IsReachable new heads) new after
+  pub parent_kept : (after : ById Operation) → RemovesOthers (IsKeptOperation new (root ∷ heads) times time) new after
       → (parent_id : List ℕ) (stored : Operation) → Contains value.parents.items parent_id → old parent_id ≡ Some stored → after parent_id ≡ Some stored
   parent_kept after removed parent_id stored among there =
       let reached = parent itself (stored_at operation_eq old new id value added) (subst (λ l. Contains l parent_id) (sym same_parents) among) in
-      kept_by_gc (IsReachable new heads) new after removed parent_id reached ∙ kept_by_write operation_eq old new id value added parent_id stored there
+      kept_by_gc (IsKeptOperation new (root ∷ heads) times time) new after removed parent_id (inl reached) ∙ kept_by_write operation_eq old new id value added parent_id stored there
 
   -- its view stays stored
-  pub view_kept : (views after : ById View) → RemovesOthers (IsReachableView new heads) views after → after value.view_id ≡ views value.view_id
+  pub view_kept : (views after : ById View) → RemovesOthers (IsKeptView new (root ∷ heads) times time) views after → after value.view_id ≡ views value.view_id
   view_kept views after removed =
-      kept_by_gc (IsReachableView new heads) views after removed value.view_id (id, added.0, itself, stored_at operation_eq old new id value added, same_view)
+      kept_by_gc (IsKeptView new (root ∷ heads) times time) views after removed value.view_id (inl (id, added.0, itself, stored_at operation_eq old new id value added, same_view))
+
+-- a read of a value that was deleted fails
+pub missing_fails : {V : Type 0} (eq : V → V → Bool) (May : OpStoreError → Type 0) (found : Option V) (r : Result V OpStoreError) → found ≡ None → ReadsEqual eq May found r → IsErr r
+missing_fails {V} eq May found (Ok x) none read = let P : Option V → Type 0 = λ o. IsSomeAnd o (λ v. eq x v ≡ true) in absurd (subst P none read)
+missing_fails eq May found (Err e) none read = refl

@@ -1,3 +1,5 @@
 mod TakenItems
 mod IdMaps
 mod KeptValues
+mod Marking
+mod Sweeping

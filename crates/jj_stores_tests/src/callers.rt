@@ -1,5 +1,5 @@
 //! Proved callers of signers, stores, views and joins.
-ghost use Rattle.std.specs.Prelude.{◌≡◌, ◌≤◌, ◌∷◌, [], ◌⊎◌, ℕ, true, false, List, Some, None, IsNone, IsSomeAnd, MatchOption, OnErr, IfOk, IfErr, length, map};
+ghost use Rattle.std.specs.Prelude.{◌≡◌, ◌≤◌, ◌∷◌, [], ◌⊎◌, ℕ, true, false, List, Some, None, IsErr, IsNone, IsSome, IsSomeAnd, MatchOption, OnErr, IfOk, IfErr, length, map};
 ghost use Rattle.std.specs.List.{list_any};
 ghost use Rattle.std.specs.Map.{lookup};
 ghost use Rattle.std.specs.Str.{bytes_eq};
@@ -7,7 +7,7 @@ ghost use Rattle.jj_stores.specs.FirstDecisive.{backends};
 ghost use Rattle.jj_stores.specs.FlatRefs.{IsFlattened, symbol_ref_of};
 ghost use Rattle.jj_stores.specs.JoinSteps.{row_of};
 ghost use Rattle.jj_stores.specs.OperationLaws.{operation_eq};
-ghost use Rattle.jj_stores.specs.OpStores.{is_not_found};
+ghost use Rattle.jj_stores.specs.OpStores.{IsKeptOperation, is_newer, is_not_found};
 ghost use Rattle.jj_stores.specs.Signer.{cache_entries, capacity_of};
 ghost use Rattle.jj_stores.specs.Verdict.{Verdict, is_unknown};
 ghost use Rattle.jj_stores.specs.ViewJoins.{IsViewJoin};
@@ -16,7 +16,7 @@ ghost use Rattle.jj_stores_tests.specs.OnlyMatches.{IsOnlyMatch};
 
 use crate::memory_op_store::MemoryOpStore;
 use jj_backend::backend::MillisSinceEpoch;
-use jj_ids::object_id::{CommitId, HexPrefix, PrefixResolution};
+use jj_ids::object_id::{CommitId, HexPrefix, OperationId, PrefixResolution, ViewId};
 use jj_ids::ref_name::{RefName, RemoteRefSymbol};
 use jj_stores::op_store::{
     LocalRemoteRefTarget, OpStore, OpStoreError, OpStoreResult, Operation, RemoteRef, View,
@@ -158,6 +158,41 @@ pub fn view_kept_in_memory(
 {
     let mut store = MemoryOpStore::new(alloc, root)?;
     view_after_gc(alloc, &mut store, view, operation, keep_newer)
+}
+
+/// Deletes all that the root operation does not reach, and reads a view that was written after
+/// `keep_newer`: it stays.
+pub fn newer_view_after_gc<S: OpStore>(
+    alloc: Global,
+    store: &mut S,
+    id: &ViewId,
+    keep_newer: MillisSinceEpoch,
+) -> OpStoreResult<View>
+    requires newer { is_newer (S.view_times store.old) keep_newer id.now ≡ true }
+    requires stored { IsSome (S.views store.old id.now) }
+    ensures view { IfOk result (λ read.
+        IsSomeAnd (S.views store.old id.now) (λ stored. view_eq read stored ≡ true)) }
+    ensures error { IfErr result (λ e. (at : S) × S.may_fail at e) }
+{
+    store.gc(alloc, &[], keep_newer)?;
+    store.read_view(alloc, id)
+}
+
+/// Deletes all that the root operation does not reach, and reads an operation that it does not
+/// reach and that was not written after `keep_newer`: it is gone.
+pub fn read_collected<S: OpStore>(
+    alloc: Global,
+    store: &mut S,
+    id: &OperationId,
+    keep_newer: MillisSinceEpoch,
+) -> OpStoreResult<Operation>
+    requires { ¬ IsKeptOperation (S.operations store.old)
+        ((S.fixed store.old).root_operation_id ∷ []) (S.operation_times store.old) keep_newer
+        id.now }
+    ensures { IsErr result }
+{
+    store.gc(alloc, &[], keep_newer)?;
+    store.read_operation(alloc, id)
 }
 
 /// Reads the operation whose id is the only one that the prefix matches. `None` means that it

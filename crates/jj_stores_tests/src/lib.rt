@@ -4,6 +4,8 @@
 #[cfg(test)]
 pub mod callers;
 #[cfg(test)]
+pub mod garbage;
+#[cfg(test)]
 pub mod memory_op_store;
 #[cfg(test)]
 mod op_store_tests;

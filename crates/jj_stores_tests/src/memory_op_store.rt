@@ -7,6 +7,7 @@ ghost use Rattle.jj_content.specs.Hex.{hex};
 ghost use Rattle.jj_stores.specs.OpStores.{AddsEqual, IsResolution, is_not_found};
 ghost use Rattle.jj_stores_tests.specs.MemoryStores.{by_id, is_other_match};
 
+use crate::garbage::{garbage, mark, remove_all, start_ids};
 use jj_backend::backend::MillisSinceEpoch;
 use jj_content::content_hash::{ContentHash, blake2b_hash};
 use jj_files::file_util::{SourceError, SourceKind};
@@ -97,6 +98,7 @@ fn insert_object<K, V: PartialEq + Drop>(
     requires { V.eq copy value.now ≡ true }
     ensures ok { IfOk result (λ id. AddsEqual V.eq
         (by_id objects.old.entries) (by_id objects.new.entries) id value.now) }
+    ensures same_id { IfOk result (λ stored. stored ≡ id) }
     ensures unchanged { OnErr result (objects.new.entries ≡ objects.old.entries) }
     ensures error { IfErr result (λ e. is_not_found e ≡ false) }
 {
@@ -141,12 +143,17 @@ fn other_match<'a, V>(
         .find(|other| **other != *id && prefix.matches(*other))
 }
 
-/// In-memory store of views and operations, addressed by digests of their content. Deletes nothing.
+/// In-memory store of views and operations, addressed by digests of their content. The time of a
+/// write is the one that was set last, at first the Unix epoch. The root operation and its view
+/// have no time.
 #[derive(Drop)]
 pub struct MemoryOpStore {
     root_operation_id: OperationId,
+    now: MillisSinceEpoch,
     views: BTreeMap<ViewId, View>,
+    view_times: BTreeMap<ViewId, MillisSinceEpoch>,
     operations: BTreeMap<OperationId, Operation>,
+    operation_times: BTreeMap<OperationId, MillisSinceEpoch>,
     ghost has_root: { IsSome (by_id operations.entries root_operation_id) },
 }
 
@@ -159,20 +166,39 @@ impl MemoryOpStore {
         let operations = single_object(alloc, root_operation_id.clone()?, root_operation)?;
         Ok(MemoryOpStore {
             root_operation_id,
+            now: MillisSinceEpoch(0),
             views: single_object(alloc, zero_id(alloc)?, root_view)?,
+            view_times: BTreeMap::new(alloc),
             operations,
+            operation_times: BTreeMap::new(alloc),
         })
+    }
+
+    /// Sets the time of the writes from now on.
+    pub fn set_time(&mut self, now: MillisSinceEpoch)
+        ensures { self.new ≡ record self.old { now = now } }
+    {
+        self.now = now;
     }
 }
 
 impl OpStore for MemoryOpStore {
-    ghost use Rattle.std.specs.Prelude.{◌≡◌, false};
+    ghost use Rattle.std.specs.Prelude.{◌≡◌, codes, false};
     ghost use Rattle.jj_stores.specs.OpStores.{is_not_found};
     ghost use Rattle.jj_stores_tests.specs.MemoryStores.{by_id};
 
     ghost views = { λ store. by_id store.views.entries };
 
     ghost operations = { λ store. by_id store.operations.entries };
+
+    ghost view_times = { λ store. by_id store.view_times.entries };
+
+    ghost operation_times = { λ store. by_id store.operation_times.entries };
+
+    ghost fixed = { λ store. record {
+      name = codes "memory";
+      root_operation_id = store.root_operation_id;
+    } };
 
     ghost may_fail = { λ _ e. is_not_found e ≡ false };
 
@@ -192,6 +218,7 @@ impl OpStore for MemoryOpStore {
     fn write_view(&mut self, alloc: Global, contents: &View) -> OpStoreResult<ViewId> {
         let id = content_id(alloc, contents)?;
         let copy = contents.clone(alloc)?;
+        self.view_times.insert(id.clone()?, self.now)?;
         insert_object(alloc, &mut self.views, id, contents, copy)
     }
 
@@ -207,6 +234,7 @@ impl OpStore for MemoryOpStore {
     ) -> OpStoreResult<OperationId> {
         let id = content_id(alloc, contents)?;
         let copy = contents.clone()?;
+        self.operation_times.insert(id.clone()?, self.now)?;
         insert_object(alloc, &mut self.operations, id, contents, copy)
     }
 
@@ -226,10 +254,28 @@ impl OpStore for MemoryOpStore {
 
     fn gc(
         &mut self,
-        _alloc: Global,
-        _head_ids: &[OperationId],
-        _keep_newer: MillisSinceEpoch,
+        alloc: Global,
+        head_ids: &[OperationId],
+        keep_newer: MillisSinceEpoch,
     ) -> OpStoreResult<()> {
+        let start = start_ids(alloc, &self.root_operation_id, head_ids)?;
+        let marked = mark(alloc, &self.operations, start)?;
+        let operations = garbage(
+            alloc,
+            &self.operations,
+            &marked.operations,
+            &self.operation_times,
+            keep_newer,
+        )?;
+        let views = garbage(
+            alloc,
+            &self.views,
+            &marked.views,
+            &self.view_times,
+            keep_newer,
+        )?;
+        remove_all(&mut self.operations, &operations);
+        remove_all(&mut self.views, &views);
         Ok(())
     }
 }

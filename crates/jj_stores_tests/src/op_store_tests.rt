@@ -3,8 +3,8 @@ use crate::callers::{find_operation, parent_after_gc, view_after_gc};
 use crate::memory_op_store::MemoryOpStore;
 use jj_backend::backend::MillisSinceEpoch;
 use jj_content_tests::retry::holds;
-use jj_ids::object_id::{CommitId, HexPrefix, ObjectId, PrefixResolution, ViewId};
-use jj_stores::op_store::{OpStore, OpStoreResult, Operation, View};
+use jj_ids::object_id::{CommitId, HexPrefix, ObjectId, OperationId, PrefixResolution, ViewId};
+use jj_stores::op_store::{OpStore, OpStoreError, OpStoreResult, Operation, View};
 use std::alloc::Global;
 
 // The id of the operation with the view 03: the BLAKE2b digest of the content of `root-operation`
@@ -79,6 +79,54 @@ fn keeps_view_in(alloc: Global, store: &mut MemoryOpStore) -> OpStoreResult<bool
     Ok(read == view)
 }
 
+fn is_missing(alloc: Global, store: &MemoryOpStore, id: &OperationId) -> OpStoreResult<bool> {
+    match store.read_operation(alloc, id) {
+        Ok(_) => Ok(false),
+        Err(OpStoreError::ObjectNotFound { .. }) => Ok(true),
+        Err(error) => Err(error),
+    }
+}
+
+fn is_view_missing(alloc: Global, store: &MemoryOpStore, id: &ViewId) -> OpStoreResult<bool> {
+    match store.read_view(alloc, id) {
+        Ok(_) => Ok(false),
+        Err(OpStoreError::ObjectNotFound { .. }) => Ok(true),
+        Err(error) => Err(error),
+    }
+}
+
+// Of two operations that nothing reaches, the newer one stays until its time is no longer kept.
+fn collects_operations_in(alloc: Global, store: &mut MemoryOpStore) -> OpStoreResult<bool> {
+    let old = store.write_operation(alloc, &operation_with_view(alloc, 3)?)?;
+    store.set_time(MillisSinceEpoch(5));
+    let new = store.write_operation(alloc, &operation_with_view(alloc, 4)?)?;
+    store.gc(alloc, &[], MillisSinceEpoch(4))?;
+    let is_kept = is_missing(alloc, store, &old)? && !is_missing(alloc, store, &new)?;
+    store.gc(alloc, &[], MillisSinceEpoch(5))?;
+    let root = OperationId::try_from_hex(alloc, ROOT_ID)?;
+    match root {
+        Some(root) => {
+            let root_is_missing = is_missing(alloc, store, &root)?;
+            Ok(is_kept && is_missing(alloc, store, &new)? && !root_is_missing)
+        }
+        None => Ok(false),
+    }
+}
+
+// The view of the root operation stays, and one of no operation does not.
+fn collects_views_in(alloc: Global, store: &mut MemoryOpStore) -> OpStoreResult<bool> {
+    let view = View::make_root(alloc, CommitId::from_bytes(alloc, &[2])?)?;
+    let id = store.write_view(alloc, &view)?;
+    store.gc(alloc, &[], MillisSinceEpoch(0))?;
+    let root = ViewId::try_from_hex(alloc, ROOT_ID)?;
+    match root {
+        Some(root) => {
+            Ok(is_view_missing(alloc, store, &id)? && !is_view_missing(alloc, store, &root)?)
+        }
+        None => Ok(false),
+    }
+}
+
 fn resolves_prefixes(alloc: Global) -> OpStoreResult<bool> {
     let mut store = new_store(alloc)?;
     resolves_prefixes_in(alloc, &mut store)
@@ -89,6 +137,16 @@ fn keeps_reachable(alloc: Global) -> OpStoreResult<bool> {
     Ok(keeps_parent_in(alloc, &mut store)? && keeps_view_in(alloc, &mut store)?)
 }
 
+fn collects_operations(alloc: Global) -> OpStoreResult<bool> {
+    let mut store = new_store(alloc)?;
+    collects_operations_in(alloc, &mut store)
+}
+
+fn collects_views(alloc: Global) -> OpStoreResult<bool> {
+    let mut store = new_store(alloc)?;
+    collects_views_in(alloc, &mut store)
+}
+
 #[test]
 fn prefixes_resolve(rt: HostRuntime) {
     assert!(rt; holds(&rt, resolves_prefixes));
@@ -97,4 +155,14 @@ fn prefixes_resolve(rt: HostRuntime) {
 #[test]
 fn gc_keeps_reachable(rt: HostRuntime) {
     assert!(rt; holds(&rt, keeps_reachable));
+}
+
+#[test]
+fn gc_deletes_old_operations(rt: HostRuntime) {
+    assert!(rt; holds(&rt, collects_operations));
+}
+
+#[test]
+fn gc_deletes_views(rt: HostRuntime) {
+    assert!(rt; holds(&rt, collects_views));
 }

@@ -17,7 +17,8 @@ returns-clause-parent g c =
     let among : Contains child.parents.items id = rw (c.in_ok-push.ensures.items, c.in_ok-clone.ensures.cases) (Contains-push c.args.child.parents.items id) in
     let there = stored_at operation_eq (operations c.args.store.now) (operations c.write_operation.new.self) id c.args.parent.now written in
     let kept = parent_kept (operations c.write_operation.new.self) (operations c.write_operation-2.new.self) c.in_ok-id.id child c.in_ok-id.ensures.ok
-    c.from_ref.result.now c.from_ref.ensures.value (operations c.gc.new.self) c.gc.ensures.kept_operations id written.0 among there in
+    (g.S.OpStore.fixed c.write_operation-2.new.self).root_operation_id c.from_ref.result.now c.from_ref.ensures.value (g.S.OpStore.operation_times c.write_operation-2.new.self) c.args.keep_newer
+    (operations c.gc.new.self) c.gc.ensures.kept_operations id written.0 among there in
     equal_read operation_eq (g.S.OpStore.may_fail c.gc.new.self) (operations c.gc.new.self id) written.0 kept laws-law c.args.parent.now written.1
     c.read_operation.result c.read_operation.ensures
 
@@ -30,6 +31,7 @@ returns-clause-error g c =
     let among : Contains child.parents.items id = rw (c.in_ok-push.ensures.items, c.in_ok-clone.ensures.cases) (Contains-push c.args.child.parents.items id) in
     let there = stored_at operation_eq (operations c.args.store.now) (operations c.write_operation.new.self) id c.args.parent.now written in
     let kept = parent_kept (operations c.write_operation.new.self) (operations c.write_operation-2.new.self) c.in_ok-id.id child c.in_ok-id.ensures.ok
-    c.from_ref.result.now c.from_ref.ensures.value (operations c.gc.new.self) c.gc.ensures.kept_operations id written.0 among there in
+    (g.S.OpStore.fixed c.write_operation-2.new.self).root_operation_id c.from_ref.result.now c.from_ref.ensures.value (g.S.OpStore.operation_times c.write_operation-2.new.self) c.args.keep_newer
+    (operations c.gc.new.self) c.gc.ensures.kept_operations id written.0 among there in
     IfErr-weaker c.read_operation.result (g.S.OpStore.may_fail c.gc.new.self) _ (λ e h. inr (c.gc.new.self, h))
     (failed_read operation_eq (g.S.OpStore.may_fail c.gc.new.self) (operations c.gc.new.self id) written.0 kept c.read_operation.result c.read_operation.ensures)
