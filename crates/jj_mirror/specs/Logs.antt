@@ -1,8 +1,9 @@
 -- The effects of a write on a log of written objects, and the errors of a logged write.
--- Cited by contracts of public items: Appends, IsCommitFailure, IsLoggedError, Keeps,
+-- Cited by contracts of public items: Appends, IsCommitFailure, IsLoggedError, IsPassedOn, Keeps,
 -- MayFailToWrite.
-use Rattle.std.specs.Prelude.{◌≡◌, ◌⊎◌, ℕ, List, [], ◌∷◌, ◌++◌, Option, Result}
+use Rattle.std.specs.Prelude.{◌≡◌, ◌⊎◌, ℕ, List, [], ◌∷◌, ◌++◌, Option, Result, IsErr}
 use Rattle.jj_files.specs.declared.file_util.errors.SourceKind.TheVariants.{Other as OtherKind}
+use Rattle.jj_paths.specs.Paths.{Path}
 use Rattle.jj_backend.specs.Errors.{IsOtherOf}
 use Rattle.jj_backend.specs.Objects.{FailsToSign, Object, commit_object, IsSigned}
 use Rattle.jj_backend.specs.Records.{CommitValue}
@@ -53,3 +54,11 @@ abbrev pub MayFailToWrite : (LogEntryValue → BackendError → Type 0)
 MayFailToWrite log_may_fail backend_may_fail object e =
     (e ≡ Memory) ⊎ log_may_fail (entry_of object) e ⊎ backend_may_fail object e
     ⊎ (IsOtherOf OtherKind e × IsParentless object)
+
+-- the write of the object at this path is the backend's; or it failed before, and the backend is
+-- unchanged
+abbrev pub IsPassedOn : {B : Type 0}
+    → (B → Path → Object → Result (List ℕ) BackendError → B → Type 0)
+    → B → Path → Object → Result (List ℕ) BackendError → B → Type 0
+IsPassedOn may_write old path object r new =
+    may_write old path object r new ⊎ (IsErr r × (new ≡ old))

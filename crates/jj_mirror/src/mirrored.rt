@@ -9,7 +9,8 @@ ghost use Rattle.jj_backend.specs.Objects.{IsRead, AddsFile, AddsSymlink, AddsCo
 ghost use Rattle.jj_backend.specs.Objects.{AddsCommit, IsSigned, IsCommitError};
 ghost use Rattle.jj_trees.specs.Signing.{signer_after};
 ghost use Rattle.jj_mirror.specs.Entries.{entry_of, record_entry};
-ghost use Rattle.jj_mirror.specs.Logs.{Appends, Keeps, IsLoggedError, IsCommitFailure};
+ghost use Rattle.jj_mirror.specs.Logs.{Appends, Keeps, IsLoggedError, IsCommitFailure, IsPassedOn};
+ghost use Rattle.jj_paths.specs.Names.{path_of};
 
 use crate::digests::{digest, file_digest, string_digest};
 use crate::object_log::{ObjectKind, ObjectLog};
@@ -134,7 +135,7 @@ impl<B: Backend, L: ObjectLog> Mirrored<B, L> {
 
 impl<B: Backend, L: ObjectLog> Backend for Mirrored<B, L> {
     ghost use Rattle.std.specs.Prelude.{codes};
-    ghost use Rattle.jj_mirror.specs.Logs.{MayFailToWrite};
+    ghost use Rattle.jj_mirror.specs.Logs.{IsPassedOn, MayFailToWrite};
 
     ghost objects = { λ store. B.objects store.backend };
 
@@ -146,6 +147,9 @@ impl<B: Backend, L: ObjectLog> Backend for Mirrored<B, L> {
 
     ghost may_fail_to_write = { λ store. MayFailToWrite (L.may_fail store.log)
         (B.may_fail_to_write store.backend) };
+
+    ghost may_write = { λ store path object r after.
+        IsPassedOn B.may_write store.backend path object r after.backend };
 
     ghost may_relate = { λ store id r. B.may_relate store.backend id r };
 
@@ -200,6 +204,8 @@ impl<B: Backend, L: ObjectLog> Backend for Mirrored<B, L> {
         ensures error { IfErr result (IsLoggedError L.contains self.old.log self.new.log L.may_fail
             (entry_of (file_object contents.now))
             (B.may_fail_to_write self.old.backend (file_object contents.now))) }
+        ensures at_path { IsPassedOn B.may_write self.old.backend (path_of path.entry)
+            (file_object contents.now) result self.new.backend }
     {
         self.append_file(alloc, contents)?;
         self.backend.write_file(alloc, path, contents)
@@ -230,6 +236,8 @@ impl<B: Backend, L: ObjectLog> Backend for Mirrored<B, L> {
         ensures error { IfErr result (IsLoggedError L.contains self.old.log self.new.log L.may_fail
             (entry_of (symlink_object target.now))
             (B.may_fail_to_write self.old.backend (symlink_object target.now))) }
+        ensures at_path { IsPassedOn B.may_write self.old.backend (path_of path.entry)
+            (symlink_object target.now) result self.new.backend }
     {
         self.append_symlink(alloc, target)?;
         self.backend.write_symlink(alloc, path, target)
@@ -283,6 +291,8 @@ impl<B: Backend, L: ObjectLog> Backend for Mirrored<B, L> {
         ensures error { IfErr result (IsLoggedError L.contains self.old.log self.new.log L.may_fail
             (entry_of (tree_object contents.now))
             (B.may_fail_to_write self.old.backend (tree_object contents.now))) }
+        ensures at_path { IsPassedOn B.may_write self.old.backend (path_of path.entry)
+            (tree_object contents.now) result self.new.backend }
     {
         self.append_record(alloc, ObjectKind::Tree, contents)?;
         self.backend.write_tree(alloc, path, contents)
