@@ -1,0 +1,75 @@
+-- Common lines of two byte strings as common starts and ends of the inputs of a comparison.
+use Rattle.std.proofs.Common.{◌≡◌, ◌≢◌, ℕ, suc, zero, ◌+◌, ◌-◌, ◌<◌, ◌≤◌, List, [], ◌∷◌, ◌++◌, length, take, drop, get_or, refl, ap, sym, ◌∙◌, subst, arith, lit<, inl, inr, ◌⊎◌, length-append, Bool, true, ◌==◌, ◌||◌, eq-eqb}
+use Rattle.std.proofs.lemmas.Bool.{cases_lt}
+use Rattle.std.proofs.lemmas.Grind.{common_steps, elements}
+use Rattle.jj_diff.specs.declared.diff.hunks.DiffHunk.{DiffHunk}
+use Rattle.jj_diff.specs.declared.diff.tokens.Tokenizer.TheVariants.{Lines}
+use Rattle.jj_diff.specs.Tokens.{IsCut, is_line_end}
+use Rattle.jj_diff.specs.Ends.{IsCommonStart, IsCommonEnd, suffix}
+use Rattle.jj_diff.specs.Hunks.{matched_start, matched_end, MatchesEnds}
+use Rattle.contracts_diffs.specs.Lines.{EndsInLine}
+
+last_of : (xs ys : List ℕ) (n : ℕ) → n ≡ length xs → 0 < n → get_or xs (length xs - 1) 0 ≡ 10 → get_or (xs ++ ys) (n - 1) 0 ≡ 10
+last_of xs ys n e lt last = grind (arith, common_steps, elements)
+
+or_true : (a b : Bool) → a ≡ true → (a || b) ≡ true
+or_true a b e = ap (λ c. c || b) e
+
+-- the end of whole lines is a cut
+cut_after : (xs ys : List ℕ) → EndsInLine xs → IsCut Lines (xs ++ ys) (length xs)
+cut_after xs ys ends = elim ends [
+  | inl none ↦ inl (ap length none)
+  | inr last ↦ elim (cases_lt 0 (length xs)) [
+    | inl lt ↦ inr (or_true _ _ (eq-eqb (get_or (xs ++ ys) (length xs - 1) 0) 10 (last_of xs ys (length xs) refl lt last)))
+    | inr le ↦ inl (omega arith)
+  ]
+]
+
+-- a fact on each of two inputs
+both : (P : ℕ → Type 0) → P 0 → P 1 → (i : ℕ) → i < 2 → P i
+both P p q zero lt = p
+both P p q (suc zero) lt = q
+both P p q (suc (suc i)) lt = absurd (omega arith)
+
+take-whole : (xs ys : List ℕ) → take (length xs) (xs ++ ys) ≡ xs
+take-whole xs ys = grind (arith, common_steps)
+
+drop-whole : (xs ys : List ℕ) (n : ℕ) → n ≡ length xs → drop n (xs ++ ys) ≡ ys
+drop-whole xs ys n e = grind (arith, common_steps)
+
+pub start_matches : (l r : List ℕ) (hs : List DiffHunk) → MatchesEnds Lines (l ∷ r ∷ []) hs
+    → (lines xs ys : List ℕ) → EndsInLine lines → l ≡ lines ++ xs → r ≡ lines ++ ys → length lines ≤ matched_start hs
+start_matches l r hs matched lines xs ys ends el er = matched.start (length lines) (record {
+  some = lit< tt;
+  within = both (λ i. length lines ≤ length (get_or (l ∷ r ∷ []) i [])) (omega (arith, ap length el, length-append lines xs)) (omega (arith, ap length er, length-append lines ys));
+  equal = both (λ i. take (length lines) (get_or (l ∷ r ∷ []) i []) ≡ take (length lines) l) refl
+      (ap (take (length lines)) er ∙ take-whole lines ys ∙ sym (ap (take (length lines)) el ∙ take-whole lines xs));
+  cuts = both (λ i. IsCut Lines (get_or (l ∷ r ∷ []) i []) (length lines))
+      (subst (λ zs. IsCut Lines zs (length lines)) (sym el) (cut_after lines xs ends))
+      (subst (λ zs. IsCut Lines zs (length lines)) (sym er) (cut_after lines ys ends));
+})
+
+suffix-whole : (l xs lines : List ℕ) → l ≡ xs ++ lines → suffix (length lines) l ≡ lines
+suffix-whole l xs lines e =
+    let n : length l - length lines ≡ length xs = omega (arith, ap length e, length-append xs lines) in
+    ap (λ k. drop k l) n ∙ ap (drop (length xs)) e ∙ drop-whole xs lines (length xs) refl
+
+cut_before : (l xs lines : List ℕ) → EndsInLine xs → l ≡ xs ++ lines → IsCut Lines l (length l - length lines)
+cut_before l xs lines ends e =
+    let n : length xs ≡ length l - length lines = omega (arith, ap length e, length-append xs lines) in
+    subst (IsCut Lines l) n (subst (λ zs. IsCut Lines zs (length xs)) (sym e) (cut_after xs lines ends))
+
+pub end_matches : (l r : List ℕ) (hs : List DiffHunk) → MatchesEnds Lines (l ∷ r ∷ []) hs
+    → (xs ys lines : List ℕ) → EndsInLine xs → EndsInLine ys → l ≡ xs ++ lines → r ≡ ys ++ lines
+    → matched_start hs ≤ length xs → matched_start hs ≤ length ys → length lines ≤ matched_end hs
+end_matches l r hs matched xs ys lines ends_xs ends_ys el er lx ly = matched.end (length lines) (record {
+  some = lit< tt;
+  within = both (λ i. matched_start hs + length lines ≤ length (get_or (l ∷ r ∷ []) i []))
+      (omega (arith, ap length el, length-append xs lines)) (omega (arith, ap length er, length-append ys lines));
+  equal = both (λ i. suffix (length lines) (get_or (l ∷ r ∷ []) i []) ≡ suffix (length lines) l) refl
+      (suffix-whole r ys lines er ∙ sym (suffix-whole l xs lines el));
+  cuts = both (λ i. IsCut Lines (get_or (l ∷ r ∷ []) i []) (length (get_or (l ∷ r ∷ []) i []) - length lines))
+      (cut_before l xs lines ends_xs el) (cut_before r ys lines ends_ys er);
+})
+
+pub ruleset ends_steps = (start_matches, end_matches)
