@@ -4,14 +4,18 @@ ghost use Rattle.jj_diff.specs.Inputs.{AreEqual, bytes_of};
 ghost use Rattle.jj_diff.specs.Hunks.{AllMatch, IsDiff, MatchesEnds};
 
 mod common;
+mod content_diff;
 mod hunks;
 mod ranges;
+mod refine;
 mod regions;
 mod search;
 mod tokens;
 
+pub use content_diff::{ContentDiff, diff};
 pub use hunks::{DiffHunk, DiffHunkKind, MatchedRegion, hunks_of_regions};
 pub use ranges::{find_line_ranges, find_nonword_ranges, find_word_ranges};
+pub use refine::refine_regions;
 pub use regions::find_regions;
 use std::alloc::{AllocError, Global};
 pub use tokens::{Tokenizer, find_line_ends, find_word_ends};
