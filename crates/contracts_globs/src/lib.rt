@@ -2,5 +2,6 @@
 //! these libraries are edits of their bodies.
 #![tactic(auto)]
 
+pub mod filesets;
 pub mod globs;
 pub mod matchers;
