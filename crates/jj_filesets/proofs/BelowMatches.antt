@@ -1,7 +1,7 @@
 -- A glob that matches a path or an ancestor of it matches a prefix of the path's string, or the root.
 use Rattle.std.proofs.Common.{◌≡◌, ◌∙◌, ◌↔◌, ◌⊎◌, inl, inr, ℕ, Bool, true, false, IsTrue, List, [], ◌∷◌, ◌++◌, refl, ap, sym, subst, append-nil, append_assoc}
 use mathlib.Core.Bool.{false≢true}
-use Rattle.jj_paths.specs.Paths.{Path, Name, IsBelow, components, is_path_string, path_string}
+use Rattle.jj_paths.specs.Paths.{Path, Name, components, is_path_string, path_string}
 use Rattle.jj_paths.proofs.PathStrings.{path_string-components, cut}
 use Rattle.jj_globs.specs.GlobMeaning.{GlobSpec, IsMatch, IsPrefixMatch}
 use Rattle.jj_filesets.specs.Patterns.{IsBelowMatch}

@@ -1,5 +1,5 @@
 -- Lines of lists that are no paths, and the first of them.
-use Rattle.std.proofs.Common.{◌≡◌, ◌∙◌, ℕ, ◌+◌, ◌<◌, ◌==◌, Bool, true, false, not, List, [], ◌∷◌, Option, Some, None, get_or, length, map, refl, ap, sym, arith, lt-ltb, zero-add}
+use Rattle.std.proofs.Common.{◌≡◌, ◌∙◌, ℕ, ◌+◌, ◌<◌, Bool, true, false, not, List, [], ◌∷◌, Option, Some, None, get_or, length, map, refl, ap, sym, arith, lt-ltb, zero-add}
 use mathlib.Core.Bool.{false≢true}
 use Rattle.std.specs.Prelude.{is_some, nat_lt, if◌then◌else◌}
 use Rattle.std.specs.List.{position, position_or_len, prefix_len, count_by, slice_get}
@@ -14,7 +14,7 @@ use Rattle.jj_filesets.specs.declared.listing.LineFault.TheVariants.{Quoted, Car
 use Rattle.jj_filesets.specs.declared.listing.ListError.{ListError}
 use Rattle.jj_filesets.specs.declared.listing.ListError.TheVariants.{Line, Memory}
 use Rattle.jj_filesets.specs.declared.listing.ListOptions.{ListOptions}
-use Rattle.jj_filesets.specs.Listing.{IsFaultOf, IsLineError, text_fault, path_fault, line_fault, is_invalid_line, invalid_count, is_quoted, ends_in_return}
+use Rattle.jj_filesets.specs.Listing.{IsFaultOf, IsLineError, text_fault, path_fault, line_fault, is_invalid_line, is_quoted, ends_in_return}
 use Rattle.jj_filesets.specs.PathStrings.{without_dot}
 
 -- 1. Strings that are UTF-8, or are not.

@@ -1,7 +1,7 @@
 -- Lists of paths: their lines, which of them are paths, and which of those are in a set.
 -- Cited by contracts of public items: IsListError, PrintedLinesAreUnique, PrintsSet, invalid_count,
 -- line_fault, lines_of.
-use Rattle.std.specs.Prelude.{◌≡◌, ℕ, ◌+◌, ◌-◌, Bool, true, false, not, ◌==◌, ◌&&◌, nat_lt, if◌then◌else◌, List, [], ◌∷◌, ◌++◌, Option, Some, None, is_some, length, slice_index, slice_get, position, count_by, flat_map, string_bytes}
+use Rattle.std.specs.Prelude.{◌≡◌, ℕ, ◌+◌, ◌-◌, Bool, false, ◌==◌, ◌&&◌, nat_lt, if◌then◌else◌, List, [], ◌∷◌, ◌++◌, Option, Some, None, is_some, length, slice_index, slice_get, position, count_by, flat_map, string_bytes}
 use Rattle.std.specs.List.{slice_split}
 use Rattle.std.specs.Str.{is_utf8}
 use Rattle.jj_excerpts.specs.Excerpts.{excerpt_of}

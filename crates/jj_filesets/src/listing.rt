@@ -25,7 +25,7 @@ pub struct ListOptions {
 #[derive(Clone, Copy, Debug, PartialEq, Eq, Error)]
 pub enum LineFault {
     /// The line is in double quotes, as git writes names with special characters.
-    #[error("is quoted by git; use -z, here and there")]
+    #[error("is quoted by git; use -z in both commands")]
     Quoted,
     /// The line ends in a carriage return.
     #[error("ends in a carriage return; the list has CRLF lines")]

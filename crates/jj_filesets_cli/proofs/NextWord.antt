@@ -1,5 +1,5 @@
 -- Command lines, word by word.
-use Rattle.std.proofs.Common.{◌≡◌, ◌∙◌, ℕ, ◌+◌, ◌<◌, List, [], ◌∷◌, Result, Ok, Err, String, Global, drop, get_or, length, map, ap, sym, subst}
+use Rattle.std.proofs.Common.{◌≡◌, ◌∙◌, ℕ, ◌+◌, ◌<◌, List, Result, Ok, String, Global, drop, get_or, length, map, ap, sym, subst}
 use Rattle.std.specs.Prelude.{string_bytes}
 use Rattle.std.proofs.lemmas.List.{at_drop_more, get_or-map, length-map}
 use Rattle.jj_filesets_cli.specs.declared.arguments.CommandLine.{CommandLine}

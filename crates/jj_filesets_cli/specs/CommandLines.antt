@@ -1,7 +1,6 @@
 -- Command lines.
 use Rattle.std.specs.Prelude.{ℕ, ◌+◌, Bool, true, false, not, ◌==◌, ◌&&◌, ◌||◌, nat_lt, if◌then◌else◌, List, [], ◌∷◌, length, slice_index, codes, Option, Some, None, Result, Ok, Err}
 use Rattle.std.specs.Str.{bytes_eq}
-use Rattle.jj_filesets.specs.declared.listing.ListOptions.{ListOptions}
 use Rattle.jj_filesets_cli.specs.declared.arguments.CommandLine.{CommandLine}
 use Rattle.jj_filesets_cli.specs.declared.arguments.OptionName.{OptionName}
 use Rattle.jj_filesets_cli.specs.declared.arguments.OptionName.TheVariants.{Help, Version, Nul, SkipInvalid, FailIfNone, End}

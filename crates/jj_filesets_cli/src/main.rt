@@ -122,7 +122,7 @@ fn select(rt: &HostRuntime, line: CommandLine, expression: &str) -> ExitCode {
         Ok(outcome) => {
             if outcome.invalid > 0 {
                 let count = outcome.invalid;
-                let _ = eprintln!(rt; "jj-filesets: skipped {count} lines that are no paths");
+                let _ = eprintln!(rt; "jj-filesets: skipped lines that are no paths: {count}");
             }
             if outcome.is_empty && line.fails_if_none {
                 return ExitCode::FAILURE;

@@ -1,4 +1,4 @@
-use Rattle.std.proofs.Common.{◌≡◌, List, ℕ, subst}
+use Rattle.std.proofs.Common.{List, ℕ, subst}
 use mathlib.Core.Bool.{false≢true}
 use Rattle.std.specs.Str.{IsUtf8}
 use Rattle.jj_filesets.proofs.Listed.{no_utf8_no_path}

@@ -1,4 +1,4 @@
-use Rattle.std.proofs.Common.{◌≡◌, ◌+◌, ◌∙◌, Err, ap, drop, map, subst}
+use Rattle.std.proofs.Common.{◌≡◌, ◌+◌, drop, map, subst}
 use Rattle.std.specs.Prelude.{string_bytes}
 use Rattle.std.proofs.lemmas.Result.{err_from_is_err_and}
 use Rattle.jj_filesets_cli.specs.CommandLines.{after_words, command_line}
