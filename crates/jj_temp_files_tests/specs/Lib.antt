@@ -1,3 +1,4 @@
 pub mod Objects
 pub mod Disk
 pub mod DiskLaws
+pub mod SameFiles

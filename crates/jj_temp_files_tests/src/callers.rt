@@ -1,13 +1,15 @@
-//! Object files, which are absent or whole.
-ghost use Rattle.std.specs.Prelude.{◌≡◌, OnOk, Some, length};
+//! Object files, which are absent or whole, and files that are one.
+ghost use Rattle.std.specs.Prelude.{◌≡◌, ◌↔◌, IfOk, IsTrue, OnOk, Some, length};
 ghost use Rattle.jj_temp_files.specs.TempNames.{IsNumberedPath};
 ghost use Rattle.jj_temp_files_tests.specs.Disk.{contents_of, LeftAfter, LeftNow};
+ghost use Rattle.jj_temp_files_tests.specs.SameFiles.{ComparesStatuses};
 ghost use Rattle.jj_temp_files_tests.specs.Objects.{IsAbsentOrWhole, StaysAbsentOrWhole};
 
 use crate::memory_disk::MemoryDisk;
 use jj_files::file_util::PathError;
-use jj_temp_files::{CrashSafe, TempNames, write_file};
+use jj_temp_files::{CrashSafe, FileAccess, FileIdentity, TempNames, write_file};
 use std::alloc::Global;
+use std::io;
 
 /// Writes an object to the path that its content determines. If the object's file was absent or
 /// whole before, it is absent or whole after a crash at any moment; it is there after the call.
@@ -45,4 +47,20 @@ pub fn store_in_memory(
         → OnOk result (contents_of disk.new.edits.items path.now ≡ Some object.now) }
 {
     store_object(alloc, disk, dir, names, path, object)
+}
+
+/// Returns whether two open files are one: whether they have one device and one number there.
+pub fn are_one_file<A: FileAccess>(files: &A, first: &A::File, second: &A::File) -> io::Result<bool>
+    ensures { IfOk result (ComparesStatuses (A.may_stat files.now first.now)
+        (A.may_stat files.now second.now)) }
+{
+    let first = FileIdentity::from_file(files, first)?;
+    let second = FileIdentity::from_file(files, second)?;
+    Ok(are_equal(&first, &second))
+}
+
+fn are_equal(first: &FileIdentity, second: &FileIdentity) -> bool
+    ensures { IsTrue result ↔ (first.now ≡ second.now) }
+{
+    first == second
 }
