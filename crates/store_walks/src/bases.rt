@@ -17,8 +17,11 @@ pub fn merge_bases<B: Backend>(
     set1: &[CommitId],
     set2: &[CommitId],
 ) -> Result<Vec<ReadCommit>, WalkError<BackendError>>
+    // If no common ancestor is on a cycle, the commits are exactly the common ancestors of both
+    // sets that are no proper ancestor of another one, as the store has them.
     ensures bases { IfOk result (λ bases. AreMergeBases (B.objects store.now) set1.now set2.now
         bases.items) }
+    // An error but `Memory` is one that a read of an ancestor of a given commit may return.
     ensures error { IfFails result (IsErrorBelow (B.objects store.now) (B.may_fail store.now)
         (set1.now ++ set2.now)) }
 {

@@ -56,10 +56,14 @@ pub fn history_order<B: Backend>(
     store: &B,
     ids: &[CommitId],
 ) -> Result<Vec<ReadCommit>, WalkError<HistoryError>>
+    // The commits are the ancestors of `ids`, each once and before its own ancestors, as the store
+    // has them, and there is no cycle.
     ensures order { IfOk result (λ order.
         IsHistoryOrder (B.objects store.now) ids.now order.items) }
+    // Where another such order first differs, its ID there is less, byte by byte.
     ensures greatest { IfOk result (λ order.
         IsGreatestHistoryOrder (B.objects store.now) ids.now order.items) }
+    // An error but `Memory` is one that a read of an ancestor may return, or that of a cycle.
     ensures error { IfFails result (IsHistoryError (B.objects store.now) (B.may_fail store.now)
         ids.now) }
 {
