@@ -154,8 +154,10 @@ where
     requires graph { (graph_of_items ID.eq F.Fn N.FnMut NI.IntoIterator NI.IntoIter.Iterator
         id_fn neighbors_fn).walkable }
     requires start { (list_of_items II.IntoIterator II.IntoIter.Iterator start).finite }
+    // The closures of the iterator may be called, and return finite lists.
     ensures can_walk { IfOk result (λ it. IsWalkable F.Fn N.FnMut (IsFiniteIterable
         NI.into_iter_gives NI.IntoIter.can_next NI.IntoIter.remaining) it.id_fn it.neighbors_fn) }
+    // The iterator is a depth-first search from the starts, before its first step.
     ensures walk { IfOk result (StartsWalk F.Fn N.FnMut ID.eq NI.into_iter_gives
         NI.IntoIter.next_gives II.IntoIterator II.IntoIter.Iterator id_fn neighbors_fn start) }
 {

@@ -39,11 +39,16 @@ where
     requires graph { (graph_of_items ID.eq F.Fn N.FnMut NI.IntoIterator NI.IntoIter.Iterator id_fn
         neighbors_fn).walkable }
     requires cycle_fn { C.IsAlwaysCallable cycle_fn }
+    // In each graph that the closures implement, the chunk is in topological order if no cycle is
+    // reachable, and the nodes reachable from the old starts are the chunk and those reachable from
+    // the new ones.
     ensures chunk { IfOk result (λ chunk. InEachModel
         (graph_of_items ID.eq F.Fn N.FnMut NI.IntoIterator NI.IntoIter.Iterator id_fn neighbors_fn)
         (list_of_nodes start.old.items)
         (λ g starts. IsNextChunk g.graph starts (map g.node chunk.items)
         (map g.node start.new.items))) }
+    // An error but `Memory` is one that `neighbors_fn` may return for a node that the starts reach,
+    // or that of `cycle_fn` for such a node, if a cycle is reachable.
     ensures error { IfFails result (λ e. IsNeighborsError
         (graph_of_items ID.eq F.Fn N.FnMut NI.IntoIterator NI.IntoIter.Iterator id_fn neighbors_fn)
         (list_of_nodes start.old.items) e
