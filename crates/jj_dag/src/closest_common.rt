@@ -231,11 +231,14 @@ where
         neighbors_fn).walkable }
     requires set1 { (list_of {E = E} II1.IntoIterator II1.IntoIter.Iterator set1).finite }
     requires set2 { (list_of {E = E} II2.IntoIterator II2.IntoIter.Iterator set2).finite }
+    // In each graph that the closures implement, the nodes are exactly those that both sets reach
+    // and that no other such node reaches, each once, if no cycle is reached from both sets.
     ensures closest { IfOk result (λ v. InEachModelOfTwo
         (graph_of_lists ID.eq F.Fn N.FnMut NI.IntoIterator NI.IntoIter.Iterator id_fn neighbors_fn)
         (list_of II1.IntoIterator II1.IntoIter.Iterator set1)
         (list_of II2.IntoIterator II2.IntoIter.Iterator set2)
         (λ g nodes1 nodes2. AreClosestNodes g nodes1 nodes2 v.items)) }
+    // An error but `Memory` is one that may be returned for a node that one of the sets reaches.
     ensures error { IfFails result (IsNeighborsErrorOfTwo
         (graph_of_lists ID.eq F.Fn N.FnMut NI.IntoIterator NI.IntoIter.Iterator id_fn neighbors_fn)
         (list_of II1.IntoIterator II1.IntoIter.Iterator set1)

@@ -43,10 +43,15 @@ where
         neighbors_fn).walkable }
     requires cycle_fn { C.IsAlwaysCallable cycle_fn }
     requires start { (list_of_items II.IntoIterator II.IntoIter.Iterator start).finite }
+    // In each graph that the closures implement, the order has the nodes that the starts reach,
+    // each once and before its neighbors, and they reach no cycle; where another such order first
+    // differs, its value there is not greater.
     ensures order { IfOk result (λ v. InEachModel
         (graph_of_items ID.eq F.Fn N.FnMut NI.IntoIterator NI.IntoIter.Iterator id_fn neighbors_fn)
         (list_of_items II.IntoIterator II.IntoIter.Iterator start)
         (λ g starts. IsGreatestOrder T.cmp g starts v.items)) }
+    // An error but `Memory` is that of a failed start, or one that may be returned for a node that
+    // the starts reach, or that of `cycle_fn` for such a node, if a cycle is reachable.
     ensures error { IfFails result (λ e. IsInputError
         (graph_of_items ID.eq F.Fn N.FnMut NI.IntoIterator NI.IntoIter.Iterator id_fn neighbors_fn)
         (list_of_items II.IntoIterator II.IntoIter.Iterator start) e

@@ -165,10 +165,14 @@ where
         id_fn neighbors_fn).walkable }
     requires start { (list_of_items II.IntoIterator II.IntoIter.Iterator start).finite }
     requires clones { (x y : T) → T.is_clone x y → IsTrue (T.eq x y) }
+    // In each graph that the closures implement, the heads are exactly the starts that no other
+    // start reaches, if the starts reach no cycle and equal values are one node.
     ensures heads { IfOk result (λ heads. InEachModel
         (graph_of_items ID.eq F.Fn N.FnMut NI.IntoIterator NI.IntoIter.Iterator id_fn neighbors_fn)
         (list_of_items II.IntoIterator II.IntoIter.Iterator start)
         (λ g starts. AreHeads T.eq g starts heads.keys)) }
+    // An error but `Memory` is that of a failed start, or one that may be returned for a node that
+    // the starts reach.
     ensures error { IfFails result (IsInputError
         (graph_of_items ID.eq F.Fn N.FnMut NI.IntoIterator NI.IntoIter.Iterator id_fn neighbors_fn)
         (list_of_items II.IntoIterator II.IntoIter.Iterator start)) }
