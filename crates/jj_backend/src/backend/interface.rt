@@ -175,8 +175,11 @@ pub trait Backend {
 
     /// Reads the tree of the directory at `path`. `ObjectNotFound` means that no tree has the id.
     fn read_tree(&self, alloc: Global, path: RepoPath<'_>, id: &TreeId) -> BackendResult<Tree>
+        // The result is the tree that the store has under the ID, `ObjectNotFound` only if it has
+        // none, or an error that a read may return.
         ensures value { IsRead (may_fail self.now)
             ((objects self.now).trees id.now) (λ t. t) result }
+        // The result is one that the backend may return for this path and ID.
         ensures at_path { may_read_tree self.now (path_of path.entry) id.now result };
 
     /// Stores the tree of a directory and returns its id.
@@ -186,6 +189,8 @@ pub trait Backend {
         path: RepoPath<'_>,
         contents: &Tree,
     ) -> BackendResult<TreeId>
+        // The tree was added under the ID returned, which no different tree had; no other object
+        // has changed.
         ensures ok { IfOk result (λ id. AddsTree (objects self.old)
             (objects self.new) id contents.now) }
         ensures unchanged { OnErr result (objects self.new ≡ objects self.old) }
