@@ -381,13 +381,19 @@ impl Signer {
         data: &[u8],
         signature: &[u8],
     ) -> SignResult<Verification>
+        // The backends and the capacity of the cache stay.
         ensures unchanged { (self.new.main ≡ self.old.main) × (self.new.others ≡ self.old.others)
             × (capacity_of self.new ≡ capacity_of self.old) }
+        // A cached verification is returned, and is then the newest of the cache; or memory runs
+        // out.
         ensures cached { ForSome (lookup (bytes_eq commit_id.now) (cache_entries self.old))
             (λ v. MatchResult result
             (λ r. (r ≡ v) × (cache_entries self.new
             ≡ cache_after (capacity_of self.old) commit_id.now v (cache_entries self.old)))
             (λ e. e ≡ SignError.Memory)) }
+        // Otherwise it is the first decisive result of the backends, the main one first, which is
+        // cached unless it is an error; without one it is `Unknown`, which is cached only if no
+        // backend can read the signature; or memory runs out.
         ensures uncached { IsNone (lookup (bytes_eq commit_id.now) (cache_entries self.old)) →
             MatchResult result
             (λ r. IsVerified (λ b. reads b signature.now)

@@ -82,7 +82,10 @@ pub fn merge_join_ref_views<'a, F>(
 where
     F: FnMut(&'a RemoteView) -> &'a BTreeMap<RefNameBuf, RemoteRef>,
     requires { F.IsAlwaysCallable get_remote_refs }
+    // The join has all local refs left.
     ensures locals { IfOk result (λ join. join.locals ≡ local_refs.now.entries) }
+    // For each remote, in order, it has all refs left that `get_remote_refs` selects, which is
+    // called once.
     ensures remotes { IfOk result (λ join. (last : F) × CallsReturn (SelectsRefs F.FnMut)
         get_remote_refs remote_views.now.entries join.remotes last) }
 {
