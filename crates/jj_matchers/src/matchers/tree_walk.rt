@@ -37,12 +37,16 @@ pub fn walk_matching<M: Matcher>(
     tree: &RepoPathTree<bool>,
     matcher: &M,
 ) -> Result<Walk, AllocError>
+    // The files are the marked paths below the root that the matcher accepts, each once.
     ensures files { IfOk result (λ walk. walk.files.items
         ≡ files_of (M.accepts matcher.now) tree.now) }
+    // The directories are exactly those that the visits lead to.
     ensures entered { IfOk result (λ walk. walk.entered.items
         ≡ entered_by (M.visits matcher.now) tree.now) }
+    // Both lists are in path order.
     ensures ordered { IfOk result (λ walk. AreInOrder walk.files.items
         × AreInOrder walk.entered.items) }
+    // Besides the root, only directories that the matcher opens were entered.
     ensures only_open { IfOk result (λ walk.
         All (λ dir. (dir ≡ []) ⊎ (M.opens matcher.now dir ≡ true)) walk.entered.items) }
 {
