@@ -40,7 +40,9 @@ impl StringMatcher {
     /// a regular expression, whose search is created anew at each call: for many strings, create a
     /// `searcher`, which keeps it.
     pub fn is_match(&self, alloc: Global, haystack: &str) -> Result<bool, AllocError>
+        // The string matches exactly if it is in the set of the matcher.
         ensures matches { IfOk result (λ yes. IsTrue yes ↔ InMatcher self.now haystack.now) }
+        // Memory runs out only for a matcher that contains a regular expression.
         ensures memory { IsErr result → MayAllocate self.now }
     {
         self.is_match_bytes(alloc, haystack.as_bytes())
