@@ -19,8 +19,10 @@ pub fn files_in<'a>(
     files: &[RepoPath<'a>],
     expression: &FilesetExpression,
 ) -> Result<Vec<RepoPath<'a>>, AllocError>
+    // A path is in the result exactly if it is in the list and in the set, and is not the root.
     ensures members { IfOk result (λ found. (path : Path) → Contains (map path_of found.items) path
         ↔ (Contains (map path_of files.now) path × (path ≢ []) × IsIn expression.now path)) }
+    // The result has the order of the list.
     ensures ordered { IfOk result (λ found. IsSelected (IsFileIn expression.now)
         (map path_of files.now) (map path_of found.items)) }
 {

@@ -55,8 +55,11 @@ impl FilesetExpression {
     /// goes on, or at the innermost parenthesis that is not closed; and with `Memory` if memory
     /// runs out or a glob is too long.
     pub fn parse(alloc: Global, text: &str) -> Result<FilesetExpression, FilesetParseError>
+        // The string spells the syntax tree of the expression by the grammar.
         ensures spelled { IfOk result (Spells text.now) }
+        // An error but `Memory` is returned only if the string spells no tree.
         ensures unspelled { IfErr result (IsUnspelled text.now) }
+        // Its kind and offset are those of the first fault in the string.
         ensures cause { IfErr result (IsParseError text.now) }
     {
         let program = compile(alloc, text.as_bytes())?;
