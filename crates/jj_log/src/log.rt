@@ -22,8 +22,12 @@ use std::alloc::{AllocError, Global};
 /// `TooWide` of the first commit whose row needs more than `MAX_COLUMNS` columns, and with `Memory`
 /// if memory runs out.
 pub fn log_rows(alloc: Global, commits: &[NumberedCommit]) -> Result<Vec<Row>, LogError>
+    // The rows are the visible commits, each once and before its ancestors, branches together, with
+    // edges to their nearest visible ancestors and to missing commits.
     ensures log { IfOk result (λ rows. IsGroupedLog commits.now (map node_of_row rows.items)) }
+    // The columns of a row are those that the row before it leaves.
     ensures columns { IfOk result (λ rows. (last : List ℕ) × AreRows [] rows.items last) }
+    // An error but `Memory` names a commit on a cycle, or the first one whose row is too wide.
     ensures error { IfErr result (IsRowsError commits.now) }
 {
     let nodes = log_nodes(alloc, commits)?;
