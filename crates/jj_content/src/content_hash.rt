@@ -44,8 +44,11 @@ pub trait ContentHash: Eq {
     /// Appends the content of the value to the state. Returns an error if memory runs out. The
     /// state has then absorbed a prefix of the content.
     fn hash<D: DigestUpdate>(&self, alloc: Global, state: &mut D) -> Result<(), AllocError>
+        // On success the content of the value was appended to the state.
         ensures ok { OnOk result (Absorbs D.absorbed state.old state.new (content self.now)) }
+        // The value is a valid one of its type.
         ensures value { OnOk result (is_value self.now) }
+        // After an error a prefix of the content was appended.
         ensures err { OnErr result (AbsorbsPrefix D.absorbed state.old state.new
             (content self.now)) };
 
