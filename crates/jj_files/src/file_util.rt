@@ -185,11 +185,15 @@ pub fn write_all<W: Sink>(writer: &mut W, piece: &[u8]) -> io::Result<()>
 pub fn copy<R: Source, W: Sink>(reader: &mut R, writer: &mut W) -> io::Result<usize>
     requires reader_works { R.has_failed reader.old ≡ false }
     requires writer_works { W.has_failed writer.old ≡ false }
+    // On success all bytes left were read and written, and the result is their number, or
+    // `usize::MAX` if there are more.
     ensures all { IfOk result (CopiesAll
         (streams (R.remaining reader.old) (W.contents writer.old))
         (streams (R.remaining reader.new) (W.contents writer.new))) }
+    // In any case the bytes written are a prefix of the bytes read.
     ensures prefix { CopiesPrefix (streams (R.remaining reader.old) (W.contents writer.old))
         (streams (R.remaining reader.new) (W.contents writer.new)) }
+    // The call fails exactly if the reader or the writer has failed.
     ensures failure { is_err result ≡ (R.has_failed reader.new || W.has_failed writer.new) }
 {
     let mut buf = [0u8; COPY_BUFFER];
