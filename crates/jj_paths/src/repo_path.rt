@@ -159,9 +159,14 @@ impl<'a> RepoPath<'a> {
         alloc: Global,
         value: &'a str,
     ) -> Result<RepoPath<'a>, InvalidNewRepoPathError>
+        // The path has the components that the slashes of the string separate.
         ensures ok { IfOk result (λ path. path_of path ≡ components value.now) }
+        // The empty string is a path, and so is one without an empty component.
         ensures valid { IsTrue (is_path_string value.now) → IsOk result }
+        // Any other string is none.
         ensures only_valid { IsOk result → IsTrue (is_path_string value.now) }
+        // An error is returned only for other strings; it has a copy of the string, unless memory
+        // ran out.
         ensures error { IfErr result (IsCopiedStringError (is_path_string value.now) value.now) }
     {
         if is_valid_repo_path_str(value) {

@@ -490,8 +490,12 @@ impl<V> RepoPathTree<V> {
     pub fn set(&mut self, path: RepoPath<'_>, mut value: V) -> Result<(), AllocError>
     where
         V: Default + Drop,
+        // The path has the value and all other values are kept; new ones are at most default values
+        // at ancestors of the path.
         ensures as_map { IfOk result (λ done.
             SetsValue V.is_default self.old (path_of path.entry) value self.new) }
+        // After an error all values are kept; new ones are at most default values at the path and
+        // its ancestors.
         ensures edited { MatchResult result (λ done. (t : Tree V)
             × AddsDefaults V.is_default self.old (path_of path.entry) t
             × IsSome (get t (path_of path.entry))
