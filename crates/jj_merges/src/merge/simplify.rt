@@ -19,9 +19,12 @@ impl<T: PartialEq + Clone> Merge<T> {
     /// changes nothing (`laws::simplified_indices_laws`). O(n²) comparisons.
     pub fn simplify(&self, alloc: Global) -> Result<Self, AllocError>
         requires clones { (x y : T) → T.is_clone x y → IsTrue (T.eq x y) }
+        // The result has clones of the terms that remain, in order.
         ensures terms { IfOk result (λ s. AllZip T.is_clone
             (at_indices self.now (simplified_indices T.eq self.now)) s) }
+        // Each value has the signed count that it had.
         ensures counts { IfOk result (λ s. HaveSameCounts T.eq s self.now) }
+        // No value is both added and removed.
         ensures disjoint { IfOk result (IsDisjoint T.eq) }
 
         // The result is the shortest merge with these counts. Another merge with these counts that

@@ -154,8 +154,11 @@ impl<T: Eq> Merge<T> {
     /// Resolves the merge if the signed counts of its terms determine one outcome, else returns
     /// `None`. See `trivial_merge`.
     pub fn resolve_trivial(&self, same_change: SameChange) -> Option<&T>
+        // The value is one of the terms.
         ensures member { IfSome result (λ v. Contains self.now v.now) }
+        // The signed counts of the terms determine this value.
         ensures resolved { IfSome result (λ v. ResolvesTo T.eq same_change self.now v.now) }
+        // `None` is returned only if they determine no value.
         ensures unresolved { IfNone result ((v : T) → ¬ (ResolvesTo T.eq same_change self.now v)) }
     {
         trivial_merge(self.as_slice(), same_change)
