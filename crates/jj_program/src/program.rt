@@ -99,13 +99,18 @@ pub fn run<R: Source, W: Sink>(
 ) -> Result<(), Fault>
     requires reader_works { R.has_failed reader.old ≡ false }
     requires writer_works { W.has_failed writer.old ≡ false }
+    // On success the source was read to its end, and the whole output of its bytes was written.
     ensures done { OnOk result (WritesOutput command
         (streams (R.remaining reader.old) (W.contents writer.old))
         (streams (R.remaining reader.new) (W.contents writer.new))) }
+    // After a fault nothing was written, but after a failed write a prefix of the output; a fault
+    // of the input is that of all its bytes.
     ensures fails { IfErr result (FailsBy command
         (streams (R.remaining reader.old) (W.contents writer.old))
         (streams (R.remaining reader.new) (W.contents writer.new))) }
+    // The source has failed exactly if the fault says so.
     ensures read_failure { R.has_failed reader.new ≡ is_read_fault result }
+    // The sink has failed exactly if the fault says so.
     ensures write_failure { W.has_failed writer.new ≡ is_write_fault result }
 {
     let input = read_input(alloc, reader)?;
@@ -141,17 +146,21 @@ pub fn start<R: Source, W: Sink, E: Sink>(
     requires reader_works { R.has_failed reader.old ≡ false }
     requires writer_works { W.has_failed writer.old ≡ false }
     requires errors_work { E.has_failed errors.old ≡ false }
+    // If the arguments are no command, nothing is read or written but the usage line.
     ensures usage { command_line (map string_bytes words.now) ≡ None → (result ≡ 2)
         × (R.remaining reader.new ≡ R.remaining reader.old)
         × (W.contents writer.new ≡ W.contents writer.old)
         × WritesLine (E.contents errors.old) (E.contents errors.new) (E.has_failed errors.new)
         usage_text }
+    // If they are one, the status is 0 or 1.
     ensures status { IsSome (command_line (map string_bytes words.now)) → result < 2 }
+    // After status 0 the whole output was written, and no error.
     ensures success { IfSome (command_line (map string_bytes words.now)) (λ command. result ≡ 0 →
         WritesOutput command (streams (R.remaining reader.old) (W.contents writer.old))
         (streams (R.remaining reader.new) (W.contents writer.new))
         × (R.has_failed reader.new ≡ false) × (W.has_failed writer.new ≡ false)
         × (E.contents errors.new ≡ E.contents errors.old)) }
+    // After status 1 there was a fault, which `run` may return, and one line about it was written.
     ensures failure { IfSome (command_line (map string_bytes words.now)) (λ command. result ≡ 1 →
         (fault : Fault) × FailsBy command (streams (R.remaining reader.old) (W.contents writer.old))
         (streams (R.remaining reader.new) (W.contents writer.new)) fault
