@@ -112,8 +112,10 @@ pub fn merge_hunks<'a>(
     inputs: &Merge<&'a [u8]>,
     same_change: SameChange,
 ) -> Result<Vec<MergeHunk<'a>>, AllocError>
+    // The hunks are the outcomes of rows of whole lines, whose columns, joined, are the inputs.
     ensures merge { IfOk result
         (λ merged. IsContentMerge same_change (bytes_of inputs.now) merged.items) }
+    // If the whole contents resolve to a value, this is the only hunk.
     ensures whole { IfOk result (λ merged. (v : List ℕ)
         → ResolvesTo bytes_eq same_change (bytes_of inputs.now) v
         → map terms_of merged.items ≡ (v ∷ []) ∷ []) }
