@@ -153,8 +153,10 @@ pub fn parse_conflict(
     num_sides: usize,
     expected_marker_len: usize,
 ) -> Result<Option<Vec<Merge<Vec<u8>>>>, AllocError>
+    // The hunks are those that the state machine over the lines finds.
     ensures hunks { IfOk result (λ o. IfSome o (λ hunks.
         contents hunks.items ≡ parsed expected_marker_len num_sides input.now)) }
+    // There is a result exactly if one of them is a conflict.
     ensures found { IfOk result (λ o. IsSome o
         ↔ (0 < conflict_count (parsed expected_marker_len num_sides input.now))) }
 {
