@@ -34,9 +34,12 @@ pub trait ReadContent: ContentHash + Drop {
     /// allocated for what it counts.
     fn read(alloc: Global, bytes: &[u8], start: usize) -> Result<(Self, usize), DecodeError>
         requires { start ≤ length bytes.now }
+        // The bytes from `start` to the offset returned are the content of the value.
         ensures decoded { IfOk result (λ decoded.
             IsContentAt Self.is_value Self.content bytes.now start decoded.0 decoded.1) }
+        // Unless memory ran out, no content of the type begins at `start`.
         ensures malformed { IfErr result (IsMalformedAt is_content bytes.now start) }
+        // The error is one of the type's, with its reason and offset.
         ensures error { IfErr result (errors bytes.now start) };
 
     /// The set includes the content of each value, is prefix-free, and has no empty member.
