@@ -9,7 +9,7 @@ use Rattle.std.specs.Str.{bytes_eq}
 use Rattle.jj_backend.specs.Objects.{ById}
 use Rattle.jj_backend.specs.declared.backend.timestamp.MillisSinceEpoch.{MillisSinceEpoch}
 use Rattle.jj_stores.specs.OperationLaws.{operation_eq}
-use Rattle.jj_stores.specs.OpStores.{AddsEqual, IsKeptOperation, IsKeptView, IsReachable, LacksOthers, ReadsEqual, RemovesOthers, Times}
+use Rattle.jj_stores.specs.OpStores.{AddsEqual, IsKeptOperation, IsKeptView, IsReachable, ReadsEqual, RemovesOthers, Times}
 use Rattle.jj_stores.specs.OpStores.IsReachable.{head, parent}
 use Rattle.jj_stores.specs.declared.op_store.errors.OpStoreError.{OpStoreError}
 use Rattle.jj_stores.specs.declared.op_store.operation.Operation.{Operation}

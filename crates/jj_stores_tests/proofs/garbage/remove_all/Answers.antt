@@ -1,4 +1,4 @@
-use Rattle.std.proofs.Common.{◌≡◌, ◌∙◌, ◌∷◌, ◌++◌, [], ◌+◌, take, ap, sym, subst}
+use Rattle.std.proofs.Common.{◌∙◌, ◌∷◌, ◌++◌, [], ◌+◌, take, ap, sym, subst}
 use Rattle.std.proofs.lemmas.List.{take_more}
 use Rattle.jj_stores_tests.specs.MemoryStores.{by_id}
 use Rattle.jj_stores_tests.proofs.Sweeping.{Removed, by_id-remove, removed_more}
