@@ -1,0 +1,4 @@
+//! Callers that restate the contracts of walks over stores; mutations are edits of their bodies.
+#![tactic(auto)]
+
+pub mod history;
