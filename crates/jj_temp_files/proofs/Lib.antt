@@ -1,1 +1,2 @@
 pub mod CrashLemmas
+pub mod WriteErrorLemmas

@@ -1,8 +1,10 @@
 //! Files that a crash leaves as they were or whole, over a file system whose outcomes of a crash
 //! are known.
-ghost use Rattle.std.specs.Prelude.{◌≡◌, ◌≢◌, ◌⊎◌, ◌≤◌, ◌++◌, ℕ, List, [], Option, Some, None, Result, Ok, Err, OnOk, OnErr, IfOk, MatchResult, drop, length, string_bytes};
+ghost use Rattle.std.specs.Prelude.{◌≡◌, ◌≢◌, ◌⊎◌, ◌≤◌, ◌++◌, ℕ, List, [], Option, Some, None, Result, Ok, Err, OnOk, OnErr, IfOk, IfErr, MatchResult, drop, length, string_bytes};
 ghost use Rattle.std.specs.declared.io.Error.{Error};
-ghost use Rattle.jj_temp_files.specs.TempNames.{IsNumberedPath};
+ghost use Rattle.jj_temp_files.specs.TempNames.{CreatesTempFile, IsNumberedPath};
+ghost use Rattle.jj_temp_files.specs.Persisting.{PersistsFile};
+ghost use Rattle.jj_temp_files.specs.WriteErrors.{FailsToFill, FailsToWrite, IsWriteFileError, WritesPieces};
 ghost use Rattle.jj_temp_files.specs.Crashes.{Changes, Untouched, LeavesOldOr, AddsWritten, IsWholeOrAbsent, IsEmptyTempFile, ReplacesFile};
 
 use crate::{FileAccess, NamedTempFile, TempNames, persist_temp_file};
@@ -93,6 +95,8 @@ fn create_empty<A: CrashSafe>(
         × IsEmptyTempFile A.created_at A.written A.contents files.new temp) }
     ensures others { (other : List ℕ) → ¬ (IsNumberedPath dir.now other)
         → Untouched A.moment A.left_since A.contents files.old files.new other }
+    ensures calls { CreatesTempFile A.may_create dir.now names.old files.old result
+        names.new files.new }
 {
     NamedTempFile::new_in(alloc, files, dir, names)
 }
@@ -113,6 +117,10 @@ fn write_all<A: CrashSafe>(
         ≡ Some (A.written temp_file.new.file)) }
     ensures others { (other : List ℕ) → other ≢ A.created_at temp_file.old.file
         → Untouched A.moment A.left_since A.contents files.old files.new other }
+    ensures all { OnOk result (WritesPieces A.may_write files.old temp_file.old.file bytes.now
+        files.new temp_file.new.file []) }
+    ensures failed { IfErr result (λ error. FailsToWrite A.may_write files.old temp_file.old.file
+        bytes.now error files.new temp_file.new.file) }
 {
     let mut rest = bytes;
     while !rest.is_empty() {
@@ -149,6 +157,8 @@ fn persist_whole<A: CrashSafe>(
         (A.contents files.new path.now) }
     ensures others { (other : List ℕ) → other ≢ path.now → other ≢ string_bytes temp_file.path
         → Untouched A.moment A.left_since A.contents files.old files.new other }
+    ensures failed { IfErr result (λ fault. PersistsFile A.may_sync A.may_rename A.may_remove
+        temp_file path.now files.old (Err fault) files.new) }
 {
     match persist_temp_file(alloc, files, temp_file, path) {
         Ok(_file) => Ok(()),
@@ -175,6 +185,8 @@ fn fill_and_persist<A: CrashSafe>(
     ensures others { IsEmptyTempFile A.created_at A.written A.contents files.old temp_file
         → (other : List ℕ) → other ≢ path.now → other ≢ string_bytes temp_file.path
         → Untouched A.moment A.left_since A.contents files.old files.new other }
+    ensures failed { IfErr result (λ fault. FailsToFill A.may_write A.may_sync A.may_rename
+        A.may_remove temp_file path.now bytes.now files.old fault files.new) }
 {
     match write_all(files, &mut temp_file, bytes) {
         Ok(()) => persist_whole(alloc, files, temp_file, path),
@@ -209,6 +221,11 @@ pub fn write_file<A: CrashSafe>(
     // Nothing changes at other paths, now or by a crash, but where a temporary file may be.
     ensures others { (other : List ℕ) → other ≢ path.now → ¬ (IsNumberedPath dir.now other)
         → Untouched A.moment A.left_since A.contents files.old files.new other }
+    // An error is that of creating a temporary file, with its path, or of writing, syncing or
+    // renaming it, with `path`.
+    ensures failed { IfErr result (λ fault. IsWriteFileError A.may_create A.may_write A.may_sync
+        A.may_rename A.may_remove dir.now names.old path.now bytes.now
+        files.old fault names.new files.new) }
 {
     match create_empty(alloc, files, dir, names) {
         Ok(temp_file) => fill_and_persist(alloc, files, temp_file, path, bytes),

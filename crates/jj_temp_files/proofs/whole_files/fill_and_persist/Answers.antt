@@ -1,6 +1,7 @@
 use Rattle.std.proofs.Common.{◌≡◌, ◌∙◌, ◌++◌, ap, sym, subst, List, ℕ, Option, Some, string_bytes}
 use Rattle.jj_temp_files.specs.Crashes.{Changes, ReplacesFile}
 use Rattle.jj_temp_files.proofs.CrashLemmas.{changes_twice, unchanged_more, untouched_twice, kept_after_error}
+use Rattle.jj_temp_files.proofs.WriteErrorLemmas.{unwritten, unpersisted}
 use Rattle.jj_temp_files.proofs.whole_files.fill_and_persist.Goals as goal
 
 pub returns-in-Ok-clause-crash : goal.returns-in-Ok-clause-crash
@@ -50,3 +51,17 @@ returns-in-Err-clause-others g c = λ empty other not_path not_temp.
     untouched_twice g.A.CrashSafe.moment g.A.CrashSafe.left_since g.A.CrashSafe.contents c.args.files.now c.write_all.new.files c.close.new.files other
     (c.write_all.ensures.others other (λ equal. not_temp (equal ∙ empty.path)))
     (g.met.A.CrashSafe.removes c.write_all.new.files c.close.new.files (string_bytes c.write_all.new.temp_file.path) c.close.ensures.0 c.close.ensures.1 other (λ equal. not_temp (equal ∙ ap string_bytes c.write_all.ensures.path)))
+
+pub returns-in-Ok-clause-failed : goal.returns-in-Ok-clause-failed
+returns-in-Ok-clause-failed g c =
+    unpersisted g.A.FileAccess.may_write g.A.FileAccess.may_sync g.A.FileAccess.may_rename g.A.FileAccess.may_remove
+    c.args.temp_file c.write_all.new.temp_file c.write_all.ensures.path c.args.path.now c.args.bytes.now
+    c.args.files.now c.write_all.new.files c.persist_whole.new.files c.in-Ok.ensures.all
+    c.persist_whole.result c.persist_whole.ensures.failed
+
+pub returns-in-Err-clause-failed : goal.returns-in-Err-clause-failed
+returns-in-Err-clause-failed g c =
+    unwritten g.A.FileAccess.may_write g.A.FileAccess.may_sync g.A.FileAccess.may_rename g.A.FileAccess.may_remove
+    c.args.temp_file c.write_all.new.temp_file c.write_all.ensures.path c.args.path.now c.args.bytes.now
+    c.args.files.now c.write_all.new.files c.close.new.files c.in-Err.error c.in-Err.ensures.failed
+    c.close.ensures.0 c.close.ensures.1 c.context.result c.context.ensures

@@ -1,6 +1,7 @@
-use Rattle.std.proofs.Common.{rules, ◌≡◌, ◌∙◌, ◌++◌, ℕ, Ok, Some, Result, OnOk, ap, sym, subst}
+use Rattle.std.proofs.Common.{rules, refl, ◌≡◌, ◌∙◌, ◌++◌, ℕ, Ok, Some, Result, OnOk, ap, sym, subst}
 use Rattle.std.specs.declared.io.Error.{Error}
-use Rattle.jj_temp_files.proofs.CrashLemmas.{adds_next, untouched_twice}
+use Rattle.jj_temp_files.proofs.CrashLemmas.{adds_next, untouched_now, untouched_twice}
+use Rattle.jj_temp_files.specs.WriteErrors.{no_piece, one_more}
 use Rattle.jj_temp_files.proofs.whole_files.write_all.Goals as goal
 
 pub returns-in_err-count-clause-others : goal.returns-in_err-count-clause-others
@@ -35,4 +36,17 @@ loop-rest-preserved g c =
           untouched_twice g.A.CrashSafe.moment g.A.CrashSafe.left_since g.A.CrashSafe.contents
           c.args.files.now c.loop-rest.files c.write.new.files other (c.loop-rest.invariant.others other apart)
           (law.3 other (λ equal. apart (equal ∙ c.loop-rest.invariant.created)));
+      pieces =
+          let P : Result ℕ Error → Type 0 = λ r. g.A.FileAccess.may_write c.loop-rest.files c.loop-rest.temp_file.file c.loop-rest.rest.now r c.write.new.files c.write.new.self.file in
+          rw c.suffix_from-rest.ensures (one_more c.loop-rest.invariant.pieces (subst P ok c.write.ensures.written) c.if-count-eq0.false);
     }
+
+pub loop-rest-init : goal.loop-rest-init
+loop-rest-init g c = record {
+  created = refl;
+  path = refl;
+  bytes = refl;
+  contents = λ before. before;
+  others = λ other apart. untouched_now g.A.CrashSafe.moment g.A.CrashSafe.left_since g.A.CrashSafe.contents c.args.files.now other;
+  pieces = no_piece;
+}

@@ -1,6 +1,8 @@
 use Rattle.std.proofs.Common.{◌≡◌, subst, List, ℕ, Option, Some, string_bytes, inl}
 use Rattle.jj_temp_files.specs.Crashes.{ReplacesFile}
 use Rattle.jj_temp_files.proofs.CrashLemmas.{changes_twice, unchanged_more, untouched_twice, is_other, leaves_old_or}
+use Rattle.jj_temp_files.specs.TempNames.{CreatesTempFile}
+use Rattle.jj_temp_files.proofs.WriteErrorLemmas.{unfilled}
 use Rattle.jj_temp_files.proofs.whole_files.write_file.Goals as goal
 
 pub returns-in-Err-clause-any_moment : goal.returns-in-Err-clause-any_moment
@@ -41,3 +43,16 @@ returns-in-Ok-clause-others g c = λ other not_path absent.
     untouched_twice g.A.CrashSafe.moment g.A.CrashSafe.left_since g.A.CrashSafe.contents c.args.files.now c.create_empty.new.files c.fill_and_persist.new.files other
     (c.create_empty.ensures.others other absent)
     (c.fill_and_persist.ensures.others made.1 other not_path (is_other c.args.dir.now (string_bytes c.in-Ok.temp_file.path) other made.0 absent))
+
+pub returns-in-Err-clause-failed : goal.returns-in-Err-clause-failed
+returns-in-Err-clause-failed g c =
+    let P : _ → Type 0 = λ r. CreatesTempFile g.A.FileAccess.may_create c.args.dir.now c.args.names.now c.args.files.now r c.create_empty.new.names c.create_empty.new.files in
+    inl (subst P c.in-Err.is c.create_empty.ensures.calls)
+
+pub returns-in-Ok-clause-failed : goal.returns-in-Ok-clause-failed
+returns-in-Ok-clause-failed g c =
+    let P : _ → Type 0 = λ r. CreatesTempFile g.A.FileAccess.may_create c.args.dir.now c.args.names.now c.args.files.now r c.create_empty.new.names c.create_empty.new.files in
+    unfilled g.A.FileAccess.may_create g.A.FileAccess.may_write g.A.FileAccess.may_sync g.A.FileAccess.may_rename g.A.FileAccess.may_remove
+    c.args.dir.now c.args.names.now c.create_empty.new.names c.args.path.now c.args.bytes.now c.in-Ok.temp_file
+    c.args.files.now c.create_empty.new.files c.fill_and_persist.new.files (subst P c.in-Ok.is c.create_empty.ensures.calls)
+    c.fill_and_persist.result c.fill_and_persist.ensures.failed
