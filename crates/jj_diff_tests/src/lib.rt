@@ -1,0 +1,5 @@
+//! Tests of jj_diff.
+#![tactic(auto)]
+
+#[cfg(test)]
+mod hunk_tests;
