@@ -1,1 +1,4 @@
 pub mod ByteStrings
+pub mod SameRecords
+pub mod WholeDigests
+pub mod FreeDigests

@@ -1,2 +1,3 @@
 pub mod Entries
+pub mod Objects
 pub mod Logs

@@ -1,7 +1,8 @@
-//! A backend beside a log of its writes.
+//! A backend in memory beside a log of its writes.
 #![tactic(auto)]
 
 pub mod digests;
+mod free_digests;
 pub mod memory_log;
 pub mod mirrored;
 pub mod object_log;

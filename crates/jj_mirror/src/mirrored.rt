@@ -1,52 +1,62 @@
-//! A backend beside a log of its writes.
+//! A backend in memory beside a log of its writes.
 ghost use Rattle.std.specs.Prelude.{◌≡◌, ◌≢◌, ◌⊎◌, [], Some, IsSome, IfOk, IfErr, OnOk, OnErr};
 ghost use Rattle.std.specs.Prelude.{string_bytes};
 ghost use Rattle.std.specs.Option.{option_map};
-ghost use Rattle.jj_backend.specs.Errors.{IsOtherOf};
 ghost use Rattle.jj_backend.specs.Objects.{file_object, symlink_object, copy_object};
 ghost use Rattle.jj_backend.specs.Objects.{tree_object, commit_object};
 ghost use Rattle.jj_backend.specs.Objects.{IsRead, AddsFile, AddsSymlink, AddsCopy, AddsTree};
 ghost use Rattle.jj_backend.specs.Objects.{AddsCommit, IsSigned, IsCommitError};
+ghost use Rattle.jj_trees.specs.MemoryObjects.{digest_length, fixed_of, objects_of};
 ghost use Rattle.jj_trees.specs.Signing.{signer_after};
-ghost use Rattle.jj_mirror.specs.Entries.{entry_of, record_entry};
-ghost use Rattle.jj_mirror.specs.Logs.{Appends, Keeps, IsLoggedError, IsCommitFailure, IsPassedOn};
-ghost use Rattle.jj_paths.specs.Names.{path_of};
+ghost use Rattle.jj_mirror.specs.Entries.{entry_of};
+ghost use Rattle.jj_mirror.specs.Logs.{Logs, IsLogFailure, IsLoggedError, IsCommitFailure};
 
 use crate::digests::{digest, file_digest, string_digest};
+use crate::free_digests::{check_commit, check_copy, check_file, check_symlink, check_tree};
 use crate::object_log::{ObjectKind, ObjectLog};
 use jj_backend::backend::{
-    Backend, BackendError, BackendResult, ChangeId, Commit, CommitId, CopyHistory, CopyId,
-    CopyRecord, FileId, NoSigner, RelatedCopy, SigningFn, SymlinkId, Tree, TreeId,
+    Backend, BackendResult, ChangeId, Commit, CommitId, CopyHistory, CopyId, CopyRecord, FileId,
+    NoSigner, RelatedCopy, SigningFn, SymlinkId, Tree, TreeId,
 };
-use jj_content::content_hash::{ContentHash, content_of};
-use jj_files::file_util::SourceKind;
+use jj_content::content_hash::content_of;
 use jj_paths::repo_path::{RepoPath, RepoPathBuf};
-use jj_trees::memory_backend::{no_parents_error, sign_commit};
+use jj_trees::memory_backend::{MemoryBackend, no_parents_error, sign_commit};
 use std::alloc::Global;
 
-/// A backend beside a log of its writes. A write appends an entry to the log and then writes to the
-/// backend, so that the log has an entry for each object whose write succeeded. Reads are the
-/// backend's.
+/// A backend in memory, with whole digests as ids, beside a log of its writes. A write appends an
+/// entry to the log and then writes to the backend, so that the log has an entry for each object
+/// whose write succeeded. An entry is appended only if `replay` takes it: a commit without parents,
+/// or an object whose digest a different object has, fails with `Other` before it is logged. Reads
+/// are the backend's.
 ///
-/// If the log fails, the write fails with the log's error, and the backend is unchanged. If the
-/// backend fails, the write fails with the backend's error, and the log keeps the entry.
+/// If the log fails, the write fails with the log's error, and the backend is unchanged. If memory
+/// runs out after that, the write fails with `Memory`, and the log keeps the entry.
 #[derive(Drop)]
-pub struct Mirrored<B, L> {
-    backend: B,
+pub struct Mirrored<L> {
+    backend: MemoryBackend,
     log: L,
+    ghost whole: { backend.id_length ≡ digest_length },
 }
 
-impl<B: Backend, L: ObjectLog> Mirrored<B, L> {
+impl<L: ObjectLog> Mirrored<L> {
     /// Puts a backend beside a log. The log should have an entry for each object of the backend
-    /// besides the root commit and the empty tree.
-    pub fn new(backend: B, log: L) -> Self
-        ensures { result ≡ record { backend = backend; log = log } }
+    /// besides the root commit and the empty tree. Returns both if the ids of the backend are not
+    /// whole digests.
+    pub fn new(backend: MemoryBackend, log: L) -> Result<Self, (MemoryBackend, L)>
+        ensures backend { IfOk result (λ store. store.backend ≡ backend) }
+        ensures log { IfOk result (λ store. store.log ≡ log) }
+        ensures refused { IfErr result (λ e. e ≡ (backend, log)) }
+        ensures cause { OnErr result (backend.id_length ≢ digest_length) }
     {
-        Mirrored { backend, log }
+        if backend.commit_id_length() == DIGEST_LENGTH {
+            Ok(Mirrored { backend, log })
+        } else {
+            Err((backend, log))
+        }
     }
 
     /// Returns the backend.
-    pub fn backend(&self) -> &B
+    pub fn backend(&self) -> &MemoryBackend
         ensures { result.now ≡ self.now.backend }
     {
         &self.backend
@@ -60,101 +70,132 @@ impl<B: Backend, L: ObjectLog> Mirrored<B, L> {
     }
 
     /// Returns the backend and the log.
-    pub fn into_parts(self) -> (B, L)
+    pub fn into_parts(self) -> (MemoryBackend, L)
         ensures { result ≡ (self.backend, self.log) }
     {
         let Mirrored { backend, log } = self;
         (backend, log)
     }
 
-    // Appends the entry of a record, whose bytes are its content.
-    fn append_record<T: ContentHash>(
-        &mut self,
-        alloc: Global,
-        kind: ObjectKind,
-        value: &T,
-    ) -> BackendResult<()>
-        ensures ok { OnOk result (Appends L.contains self.old.log self.new.log
-            (record_entry kind (T.content value.now))) }
-        ensures unchanged { OnErr result (Keeps L.contains self.old.log self.new.log) }
-        ensures error { IfErr result (λ e. (e ≡ BackendError.Memory)
-            ⊎ L.may_fail self.old.log (record_entry kind (T.content value.now)) e) }
-        ensures backend { self.new.backend ≡ self.old.backend }
-    {
-        let bytes = content_of(alloc, value)?;
-        let id = digest(&bytes);
-        self.log.append(alloc, kind, &id, &bytes)
-    }
-
-    // Appends the entry of a file.
-    fn append_file(&mut self, alloc: Global, contents: &[u8]) -> BackendResult<()>
-        ensures ok { OnOk result (Appends L.contains self.old.log self.new.log
-            (entry_of (file_object contents.now))) }
-        ensures unchanged { OnErr result (Keeps L.contains self.old.log self.new.log) }
-        ensures error { IfErr result
-            (L.may_fail self.old.log (entry_of (file_object contents.now))) }
+    // Appends the entry of a file, unless a different one has its digest.
+    fn log_file(&mut self, alloc: Global, contents: &[u8]) -> BackendResult<()>
+        ensures ok { OnOk result (Logs L.contains self.old.log self.new.log
+            (objects_of self.old.backend) (file_object contents.now)) }
+        ensures error { IfErr result (IsLogFailure L.contains self.old.log self.new.log L.may_fail
+            (objects_of self.old.backend) (file_object contents.now)) }
         ensures backend { self.new.backend ≡ self.old.backend }
     {
         let id = file_digest(contents);
+        check_file(alloc, &self.backend, &id, contents)?;
         self.log.append(alloc, ObjectKind::File, &id, contents)
     }
 
-    // Appends the entry of a symbolic link.
-    fn append_symlink(&mut self, alloc: Global, target: &str) -> BackendResult<()>
-        ensures ok { OnOk result (Appends L.contains self.old.log self.new.log
-            (entry_of (symlink_object target.now))) }
-        ensures unchanged { OnErr result (Keeps L.contains self.old.log self.new.log) }
-        ensures error { IfErr result
-            (L.may_fail self.old.log (entry_of (symlink_object target.now))) }
+    // Appends the entry of a symbolic link, unless a different one has its digest.
+    fn log_symlink(&mut self, alloc: Global, target: &str) -> BackendResult<()>
+        ensures ok { OnOk result (Logs L.contains self.old.log self.new.log
+            (objects_of self.old.backend) (symlink_object target.now)) }
+        ensures error { IfErr result (IsLogFailure L.contains self.old.log self.new.log L.may_fail
+            (objects_of self.old.backend) (symlink_object target.now)) }
         ensures backend { self.new.backend ≡ self.old.backend }
     {
         let id = string_digest(target.as_bytes());
+        check_symlink(alloc, &self.backend, &id, target)?;
         self.log
             .append(alloc, ObjectKind::Symlink, &id, target.as_bytes())
     }
 
+    // Appends the entry of a copy history, unless a different one has its digest.
+    fn log_copy(&mut self, alloc: Global, copy: &CopyHistory) -> BackendResult<()>
+        ensures ok { OnOk result (Logs L.contains self.old.log self.new.log
+            (objects_of self.old.backend) (copy_object copy.now)) }
+        ensures error { IfErr result (IsLogFailure L.contains self.old.log self.new.log L.may_fail
+            (objects_of self.old.backend) (copy_object copy.now)) }
+        ensures backend { self.new.backend ≡ self.old.backend }
+    {
+        let bytes = content_of(alloc, copy)?;
+        let id = digest(&bytes);
+        check_copy(alloc, &self.backend, &id, copy)?;
+        self.log.append(alloc, ObjectKind::Copy, &id, &bytes)
+    }
+
+    // Appends the entry of a tree, unless a different one has its digest.
+    fn log_tree(&mut self, alloc: Global, tree: &Tree) -> BackendResult<()>
+        ensures ok { OnOk result (Logs L.contains self.old.log self.new.log
+            (objects_of self.old.backend) (tree_object tree.now)) }
+        ensures error { IfErr result (IsLogFailure L.contains self.old.log self.new.log L.may_fail
+            (objects_of self.old.backend) (tree_object tree.now)) }
+        ensures backend { self.new.backend ≡ self.old.backend }
+    {
+        let bytes = content_of(alloc, tree)?;
+        let id = digest(&bytes);
+        check_tree(alloc, &self.backend, &id, tree)?;
+        self.log.append(alloc, ObjectKind::Tree, &id, &bytes)
+    }
+
+    // Appends the entry of a commit in its stored form, unless a different one has its digest.
+    fn log_commit(&mut self, alloc: Global, commit: &Commit) -> BackendResult<()>
+        requires { commit.now.parents ≢ [] }
+        ensures ok { OnOk result (Logs L.contains self.old.log self.new.log
+            (objects_of self.old.backend) (commit_object commit.now)) }
+        ensures error { IfErr result (IsLogFailure L.contains self.old.log self.new.log L.may_fail
+            (objects_of self.old.backend) (commit_object commit.now)) }
+        ensures backend { self.new.backend ≡ self.old.backend }
+    {
+        let bytes = content_of(alloc, commit)?;
+        let id = digest(&bytes);
+        check_commit(alloc, &self.backend, &id, commit)?;
+        self.log.append(alloc, ObjectKind::Commit, &id, &bytes)
+    }
+
     // Writes a commit in its stored form.
     fn write_stored(&mut self, alloc: Global, commit: Commit) -> BackendResult<(CommitId, Commit)>
-        ensures ok { IfOk result (λ stored. AddsCommit (B.objects self.old.backend)
-            (B.objects self.new.backend) stored.0 stored.1) }
+        requires { commit.parents ≢ [] }
+        ensures ok { IfOk result (λ stored. AddsCommit (objects_of self.old.backend)
+            (objects_of self.new.backend) stored.0 stored.1) }
+        ensures id { IfOk result (λ stored.
+            stored.0 ≡ (entry_of (commit_object commit)).id) }
+        ensures frame { self.new.backend
+            ≡ record self.old.backend { commits = self.new.backend.commits } }
         ensures commit { IfOk result (λ stored. stored.1 ≡ commit) }
-        ensures logged { OnOk result (Appends L.contains self.old.log self.new.log
-            (entry_of (commit_object commit))) }
-        ensures unchanged { OnErr result
-            (B.objects self.new.backend ≡ B.objects self.old.backend) }
-        ensures fixed { B.fixed self.new.backend ≡ B.fixed self.old.backend }
+        ensures logged { IfOk result (λ stored. Logs L.contains self.old.log self.new.log
+            (objects_of self.old.backend) (commit_object stored.1)) }
+        ensures unchanged { OnErr result (self.new.backend ≡ self.old.backend) }
         ensures error { IfErr result (IsLoggedError L.contains self.old.log self.new.log L.may_fail
-            (entry_of (commit_object commit))
-            (B.may_fail_to_write self.old.backend (commit_object commit))) }
+            (objects_of self.old.backend) (commit_object commit)) }
     {
-        self.append_record(alloc, ObjectKind::Commit, &commit)?;
+        self.log_commit(alloc, &commit)?;
         self.backend
             .write_commit(alloc, commit, None::<&mut NoSigner>)
     }
 }
 
-impl<B: Backend, L: ObjectLog> Backend for Mirrored<B, L> {
-    ghost use Rattle.std.specs.Prelude.{codes};
-    ghost use Rattle.jj_mirror.specs.Logs.{IsPassedOn, MayFailToWrite};
+// The length of a BLAKE2b digest in bytes.
+const DIGEST_LENGTH: usize = 64;
 
-    ghost objects = { λ store. B.objects store.backend };
+impl<L: ObjectLog> Backend for Mirrored<L> {
+    ghost use Rattle.std.specs.Prelude.{◌≡◌, ◌⊎◌, ⊤, true, codes, IsErrAnd};
+    ghost use Rattle.jj_backend.specs.Errors.{is_unsupported};
+    ghost use Rattle.jj_backend.specs.declared.backend.errors.BackendError.TheVariants.{Memory};
+    ghost use Rattle.jj_trees.specs.MemoryObjects.{fixed_of, objects_of};
+    ghost use Rattle.jj_mirror.specs.Logs.{MayFailToWrite};
 
-    ghost fixed = { λ store. record (B.fixed store.backend) { name = codes "mirrored" } };
+    ghost objects = { λ store. objects_of store.backend };
 
-    ghost may_fail = { λ store e. B.may_fail store.backend e };
+    ghost fixed = { λ store. record (fixed_of store.backend) { name = codes "mirrored" } };
 
-    ghost may_read_tree = { λ store path id r. B.may_read_tree store.backend path id r };
+    ghost may_fail = { λ _ e. e ≡ Memory };
+
+    ghost may_read_tree = { λ _ path id r. ⊤ };
 
     ghost may_fail_to_write = { λ store. MayFailToWrite (L.may_fail store.log)
-        (B.may_fail_to_write store.backend) };
+        (objects_of store.backend) };
 
-    ghost may_write = { λ store path object r after.
-        IsPassedOn B.may_write store.backend path object r after.backend };
+    ghost may_write = { λ _ _ _ _ _. ⊤ };
 
-    ghost may_relate = { λ store id r. B.may_relate store.backend id r };
+    ghost may_relate = { λ _ _ r. IsErrAnd r (λ e. (e ≡ Memory) ⊎ (is_unsupported e ≡ true)) };
 
-    ghost may_list_copies = { λ store paths root head r.
-        B.may_list_copies store.backend paths root head r };
+    ghost may_list_copies = { λ _ _ _ _ r. IsErrAnd r
+        (λ e. (e ≡ Memory) ⊎ (is_unsupported e ≡ true)) };
 
     fn name(&self) -> &str {
         "mirrored"
@@ -194,20 +235,18 @@ impl<B: Backend, L: ObjectLog> Backend for Mirrored<B, L> {
         path: RepoPath<'_>,
         contents: &[u8],
     ) -> BackendResult<FileId>
-        ensures ok { IfOk result (λ id. AddsFile (B.objects self.old.backend)
-            (B.objects self.new.backend) id contents.now) }
-        ensures logged { OnOk result (Appends L.contains self.old.log self.new.log
-            (entry_of (file_object contents.now))) }
-        ensures unchanged { OnErr result
-            (B.objects self.new.backend ≡ B.objects self.old.backend) }
-        ensures fixed { B.fixed self.new.backend ≡ B.fixed self.old.backend }
+        ensures ok { IfOk result (λ id. AddsFile (objects_of self.old.backend)
+            (objects_of self.new.backend) id contents.now) }
+        ensures id { IfOk result (λ id. id ≡ (entry_of (file_object contents.now)).id) }
+        ensures frame { self.new.backend
+            ≡ record self.old.backend { files = self.new.backend.files } }
+        ensures logged { OnOk result (Logs L.contains self.old.log self.new.log
+            (objects_of self.old.backend) (file_object contents.now)) }
+        ensures unchanged { OnErr result (self.new.backend ≡ self.old.backend) }
         ensures error { IfErr result (IsLoggedError L.contains self.old.log self.new.log L.may_fail
-            (entry_of (file_object contents.now))
-            (B.may_fail_to_write self.old.backend (file_object contents.now))) }
-        ensures at_path { IsPassedOn B.may_write self.old.backend (path_of path.entry)
-            (file_object contents.now) result self.new.backend }
+            (objects_of self.old.backend) (file_object contents.now)) }
     {
-        self.append_file(alloc, contents)?;
+        self.log_file(alloc, contents)?;
         self.backend.write_file(alloc, path, contents)
     }
 
@@ -226,20 +265,18 @@ impl<B: Backend, L: ObjectLog> Backend for Mirrored<B, L> {
         path: RepoPath<'_>,
         target: &str,
     ) -> BackendResult<SymlinkId>
-        ensures ok { IfOk result (λ id. AddsSymlink (B.objects self.old.backend)
-            (B.objects self.new.backend) id target.now) }
-        ensures logged { OnOk result (Appends L.contains self.old.log self.new.log
-            (entry_of (symlink_object target.now))) }
-        ensures unchanged { OnErr result
-            (B.objects self.new.backend ≡ B.objects self.old.backend) }
-        ensures fixed { B.fixed self.new.backend ≡ B.fixed self.old.backend }
+        ensures ok { IfOk result (λ id. AddsSymlink (objects_of self.old.backend)
+            (objects_of self.new.backend) id target.now) }
+        ensures id { IfOk result (λ id. id ≡ (entry_of (symlink_object target.now)).id) }
+        ensures frame { self.new.backend
+            ≡ record self.old.backend { symlinks = self.new.backend.symlinks } }
+        ensures logged { OnOk result (Logs L.contains self.old.log self.new.log
+            (objects_of self.old.backend) (symlink_object target.now)) }
+        ensures unchanged { OnErr result (self.new.backend ≡ self.old.backend) }
         ensures error { IfErr result (IsLoggedError L.contains self.old.log self.new.log L.may_fail
-            (entry_of (symlink_object target.now))
-            (B.may_fail_to_write self.old.backend (symlink_object target.now))) }
-        ensures at_path { IsPassedOn B.may_write self.old.backend (path_of path.entry)
-            (symlink_object target.now) result self.new.backend }
+            (objects_of self.old.backend) (symlink_object target.now)) }
     {
-        self.append_symlink(alloc, target)?;
+        self.log_symlink(alloc, target)?;
         self.backend.write_symlink(alloc, path, target)
     }
 
@@ -248,18 +285,18 @@ impl<B: Backend, L: ObjectLog> Backend for Mirrored<B, L> {
     }
 
     fn write_copy(&mut self, alloc: Global, copy: &CopyHistory) -> BackendResult<CopyId>
-        ensures ok { IfOk result (λ id. AddsCopy (B.objects self.old.backend)
-            (B.objects self.new.backend) id copy.now) }
-        ensures logged { OnOk result (Appends L.contains self.old.log self.new.log
-            (entry_of (copy_object copy.now))) }
-        ensures unchanged { OnErr result
-            (B.objects self.new.backend ≡ B.objects self.old.backend) }
-        ensures fixed { B.fixed self.new.backend ≡ B.fixed self.old.backend }
+        ensures ok { IfOk result (λ id. AddsCopy (objects_of self.old.backend)
+            (objects_of self.new.backend) id copy.now) }
+        ensures id { IfOk result (λ id. id ≡ (entry_of (copy_object copy.now)).id) }
+        ensures frame { self.new.backend
+            ≡ record self.old.backend { copies = self.new.backend.copies } }
+        ensures logged { OnOk result (Logs L.contains self.old.log self.new.log
+            (objects_of self.old.backend) (copy_object copy.now)) }
+        ensures unchanged { OnErr result (self.new.backend ≡ self.old.backend) }
         ensures error { IfErr result (IsLoggedError L.contains self.old.log self.new.log L.may_fail
-            (entry_of (copy_object copy.now))
-            (B.may_fail_to_write self.old.backend (copy_object copy.now))) }
+            (objects_of self.old.backend) (copy_object copy.now)) }
     {
-        self.append_record(alloc, ObjectKind::Copy, copy)?;
+        self.log_copy(alloc, copy)?;
         self.backend.write_copy(alloc, copy)
     }
 
@@ -281,20 +318,18 @@ impl<B: Backend, L: ObjectLog> Backend for Mirrored<B, L> {
         path: RepoPath<'_>,
         contents: &Tree,
     ) -> BackendResult<TreeId>
-        ensures ok { IfOk result (λ id. AddsTree (B.objects self.old.backend)
-            (B.objects self.new.backend) id contents.now) }
-        ensures logged { OnOk result (Appends L.contains self.old.log self.new.log
-            (entry_of (tree_object contents.now))) }
-        ensures unchanged { OnErr result
-            (B.objects self.new.backend ≡ B.objects self.old.backend) }
-        ensures fixed { B.fixed self.new.backend ≡ B.fixed self.old.backend }
+        ensures ok { IfOk result (λ id. AddsTree (objects_of self.old.backend)
+            (objects_of self.new.backend) id contents.now) }
+        ensures id { IfOk result (λ id. id ≡ (entry_of (tree_object contents.now)).id) }
+        ensures frame { self.new.backend
+            ≡ record self.old.backend { trees = self.new.backend.trees } }
+        ensures logged { OnOk result (Logs L.contains self.old.log self.new.log
+            (objects_of self.old.backend) (tree_object contents.now)) }
+        ensures unchanged { OnErr result (self.new.backend ≡ self.old.backend) }
         ensures error { IfErr result (IsLoggedError L.contains self.old.log self.new.log L.may_fail
-            (entry_of (tree_object contents.now))
-            (B.may_fail_to_write self.old.backend (tree_object contents.now))) }
-        ensures at_path { IsPassedOn B.may_write self.old.backend (path_of path.entry)
-            (tree_object contents.now) result self.new.backend }
+            (objects_of self.old.backend) (tree_object contents.now)) }
     {
-        self.append_record(alloc, ObjectKind::Tree, contents)?;
+        self.log_tree(alloc, contents)?;
         self.backend.write_tree(alloc, path, contents)
     }
 
@@ -310,20 +345,22 @@ impl<B: Backend, L: ObjectLog> Backend for Mirrored<B, L> {
         contents: Commit,
         sign_with: Option<&mut S>,
     ) -> BackendResult<(CommitId, Commit)>
-        ensures ok { IfOk result (λ stored. AddsCommit (B.objects self.old.backend)
-            (B.objects self.new.backend) stored.0 stored.1) }
+        ensures ok { IfOk result (λ stored. AddsCommit (objects_of self.old.backend)
+            (objects_of self.new.backend) stored.0 stored.1) }
+        ensures id { IfOk result (λ stored. stored.0 ≡ (entry_of (commit_object stored.1)).id) }
+        ensures frame { self.new.backend
+            ≡ record self.old.backend { commits = self.new.backend.commits } }
         ensures signed { IfOk result (λ stored.
             IsSigned S.may_sign (option_map (λ f. f.now) sign_with.entry) contents stored.1) }
+        ensures parents { OnOk result (contents.parents ≢ []) }
         ensures not_called { contents.parents ≡ []
             → signer_after (λ f. f.0.now) sign_with.exit ≡ option_map (λ f. f.now) sign_with.entry }
-        ensures logged { IfOk result (λ stored. Appends L.contains self.old.log self.new.log
-            (entry_of (commit_object stored.1))) }
-        ensures unchanged { OnErr result
-            (B.objects self.new.backend ≡ B.objects self.old.backend) }
-        ensures fixed { B.fixed self.new.backend ≡ B.fixed self.old.backend }
+        ensures logged { IfOk result (λ stored. Logs L.contains self.old.log self.new.log
+            (objects_of self.old.backend) (commit_object stored.1)) }
+        ensures unchanged { OnErr result (self.new.backend ≡ self.old.backend) }
         ensures error { IfErr result (IsCommitFailure L.contains self.old.log self.new.log
-            L.may_fail (λ commit. B.may_fail_to_write self.old.backend (commit_object commit))
-            S.may_sign (option_map (λ f. f.now) sign_with.entry) contents) }
+            L.may_fail (objects_of self.old.backend) S.may_sign
+            (option_map (λ f. f.now) sign_with.entry) contents) }
     {
         match sign_with {
             None => {

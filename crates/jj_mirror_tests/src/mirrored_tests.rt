@@ -70,10 +70,19 @@ impl SigningFn for FixedSigner {
 
 // The tests borrow the store: one that owned it would drop it at each `?`, and each drop of it is
 // proved.
-type Store = Mirrored<MemoryBackend, MemoryLog>;
+type Store = Mirrored<MemoryLog>;
 
 fn new_store(alloc: Global) -> BackendResult<Store> {
-    Ok(Mirrored::new(MemoryBackend::new(alloc)?, MemoryLog::new(alloc)))
+    over(alloc, MemoryLog::new(alloc))
+}
+
+// Puts a new backend beside a log.
+fn over<L: ObjectLog + Drop>(alloc: Global, log: L) -> BackendResult<Mirrored<L>> {
+    let backend = MemoryBackend::new(alloc)?;
+    match Mirrored::new(backend, log) {
+        Ok(store) => Ok(store),
+        Err(_) => Err(BackendError::Memory),
+    }
 }
 
 // A child of the root commit.
@@ -145,10 +154,7 @@ fn id_of_file(alloc: Global, bytes: &[u8]) -> BackendResult<FileId> {
 }
 
 // A failed log fails the write with its error, and the object is not stored.
-fn fails_with_log(
-    alloc: Global,
-    store: &mut Mirrored<MemoryBackend, FullLog>,
-) -> BackendResult<bool> {
+fn fails_with_log(alloc: Global, store: &mut Mirrored<FullLog>) -> BackendResult<bool> {
     let first = store.write_file(alloc, RepoPath::root(), b"1")?;
     let failed = match store.write_file(alloc, RepoPath::root(), b"2") {
         Err(error) => is_disk_full(&error),
@@ -161,6 +167,15 @@ fn fails_with_log(
     };
     let is_read = store.read_file(alloc, RepoPath::root(), &first)?.as_slice() == b"1".as_slice();
     Ok(failed && is_absent && is_read && store.log().entries.entries().len() == 1)
+}
+
+// A backend with ids of 20 bytes is returned: an entry has the whole digest.
+fn returns_short_ids(alloc: Global) -> BackendResult<bool> {
+    let backend = MemoryBackend::with_id_length(alloc, 20)?;
+    match Mirrored::new(backend, MemoryLog::new(alloc)) {
+        Ok(_) => Ok(false),
+        Err((backend, log)) => Ok(backend.commit_id_length() == 20 && log.entries().is_empty()),
+    }
 }
 
 fn logs(alloc: Global) -> BackendResult<bool> {
@@ -183,7 +198,7 @@ fn stores_nothing(alloc: Global) -> BackendResult<bool> {
         entries: MemoryLog::new(alloc),
         capacity: 1,
     };
-    let mut store = Mirrored::new(MemoryBackend::new(alloc)?, log);
+    let mut store = over(alloc, log)?;
     fails_with_log(alloc, &mut store)
 }
 
@@ -192,6 +207,7 @@ fn objects_are_logged(rt: HostRuntime) {
     assert!(rt; holds(&rt, logs));
     assert!(rt; holds(&rt, logs_commits));
     assert!(rt; holds(&rt, stores_commits));
+    assert!(rt; holds(&rt, returns_short_ids));
 }
 
 #[test]

@@ -10,7 +10,7 @@ use Rattle.jj_backend.specs.Trees.{Entries}
 use Rattle.jj_mirror.specs.Entries.{LogEntryValue, entry_of}
 use Rattle.jj_mirror.specs.declared.object_log.ObjectKind.TheVariants.{File, Symlink, Copy, Tree, Commit}
 use Rattle.jj_mirror.specs.Entries.{digest_of}
-use Rattle.jj_mirror.specs.Logs.{IsParentless}
+use Rattle.jj_mirror.specs.Objects.{IsDigestTaken, IsObject, IsParentless}
 use Rattle.jj_content.specs.Blake2b.{blake2b}
 use Rattle.jj_content.specs.Content.{string_content}
 use Rattle.jj_files.specs.declared.file_util.errors.SourceKind.TheVariants.{Other as OtherKind}
@@ -19,11 +19,11 @@ use Rattle.jj_backend.specs.declared.backend.errors.BackendError.{BackendError}
 use Rattle.jj_backend.specs.declared.backend.errors.BackendError.TheVariants.{Memory as MemoryCause}
 use Rattle.jj_trees.specs.MemoryObjects.{MemoryBackendValue, objects_of, by_id, object_id, digest_length, IsTakenByOther, IsStoreError, MayFailToWrite}
 use Rattle.jj_trees.specs.Signing.{IsCommitIdTaken}
-use Rattle.jj_replay.specs.Replays.{IsObject, HasBytesOf, IsEntryError, IsDigestTaken}
+use Rattle.jj_replay.specs.Replays.{HasBytesOf, IsEntryError, replay_error}
 use Rattle.jj_replay.specs.Writes.{Adds, AddsEntry, IsDecodeError, IsWrongId}
 use Rattle.jj_replay.specs.declared.error.ReplayError.{ReplayError}
 use Rattle.jj_replay.specs.declared.error.ReplayError.TheVariants.{Memory, Malformed, WrongObject, Backend}
-use Rattle.jj_replay.proofs.Digests.{whole_digest}
+use Rattle.jj_mirror.proofs.WholeDigests.{whole_digest}
 
 -- ---- bytes that no object has
 
@@ -83,7 +83,7 @@ commit_malformed backend entry (Backend cause) is error = absurd error.0
 
 -- the error that `?` makes of the backend's
 abbrev IsConverted : BackendError → ReplayError → Type 0
-IsConverted cause e = (e ≡ Memory) ⊎ ((e ≡ Backend cause) × (cause ≢ MemoryCause))
+IsConverted cause e = e ≡ replay_error cause
 
 -- a failed write of an object: out of memory, no parents, or the digest of a different object
 abbrev IsStoreFailure : MemoryBackendValue → Object → BackendError → Type 0
@@ -92,9 +92,10 @@ IsStoreFailure backend object cause = (cause ≡ MemoryCause)
 
 store_error : (backend : MemoryBackendValue) (entry : LogEntryValue) (object : Object) (cause : BackendError) (e : ReplayError)
     → IsObject object → HasBytesOf entry object → IsStoreFailure backend object cause → IsConverted cause e → IsEntryError backend entry e
-store_error backend entry object cause e valid has failure (inl is) = subst (IsEntryError backend entry) (sym is) tt
-store_error backend entry object cause e valid has (inl memory) (inr is) = absurd (is.1 memory)
-store_error backend entry object cause e valid has (inr other) (inr is) = subst (IsEntryError backend entry) (sym is.0) (other.0, (object, valid, has, other.1))
+store_error backend entry object cause e valid has (inl memory) is = subst (IsEntryError backend entry) (sym (is ∙ ap replay_error memory)) tt
+store_error backend entry object cause e valid has (inr other) is =
+    let source = other.0 in
+    subst (IsEntryError backend entry) (sym (is ∙ ap replay_error source.1)) ((source.0, refl, source.2), (object, valid, has, other.1))
 
 file_taken : (backend : MemoryBackendValue) (v : List ℕ) (cause : BackendError) → backend.id_length ≡ digest_length → IsStoreError backend.files (object_id backend.id_length (bytes_content v)) v cause
     → IsStoreFailure backend (file_object v) cause
@@ -142,11 +143,12 @@ wrong_id backend entry id (Backend cause) is wrong = absurd wrong.0
 
 -- ---- the object of an entry is added
 
-added : (old new : MemoryBackendValue) (entry : LogEntryValue) (id : List ℕ) (object : Object) → IsObject object → HasBytesOf entry object
+added : (old new : MemoryBackendValue) (entry : LogEntryValue) (id : List ℕ) (object : Object) → IsObject object → ¬ (IsParentless object) → HasBytesOf entry object
     → id ≡ (entry_of object).id → entry.id ≡ id → Adds old new id object → AddsEntry old new entry
-added old new entry id object valid has digest is adds = (
+added old new entry id object valid parents has digest is adds = (
   object,
   valid,
+  parents,
   (λ i. record { kind = has.0 i; id = (is ∙ digest) i; bytes = has.1 i }),
   subst (λ (q : List ℕ). Adds old new q object) (sym is) adds,
 )
@@ -156,7 +158,7 @@ added old new entry id object valid has digest is adds = (
 pub file_added : (old new : MemoryBackendValue) (entry : LogEntryValue) (v id : List ℕ) → old.id_length ≡ digest_length → entry.kind ≡ File → entry.bytes ≡ v → id ≡ object_id old.id_length (bytes_content v) → entry.id ≡ id
     → AddsFile (objects_of old) (objects_of new) id v → new ≡ record old { files = new.files } → AddsEntry old new entry
 file_added old new entry v id n is d digest same adds frame =
-    added old new entry id (file_object v) tt (is, d) (digest ∙ whole_digest (bytes_content v) old.id_length n) same (adds, frame)
+    added old new entry id (file_object v) tt (λ none. none) (is, d) (digest ∙ whole_digest (bytes_content v) old.id_length n) same (adds, frame)
 
 pub file_error : (old : MemoryBackendValue) (entry : LogEntryValue) (v : List ℕ) (cause : BackendError) (e : ReplayError) → old.id_length ≡ digest_length → entry.kind ≡ File → entry.bytes ≡ v
     → IsStoreError old.files (object_id old.id_length (bytes_content v)) v cause → IsConverted cause e → IsEntryError old entry e
@@ -171,7 +173,7 @@ file_wrong old entry id e n is digest =
 pub symlink_added : (old new : MemoryBackendValue) (entry : LogEntryValue) (v : List ℕ) (id : List ℕ) → old.id_length ≡ digest_length → entry.kind ≡ Symlink → IsUtf8 v × (entry.bytes ≡ v) → id ≡ object_id old.id_length (string_content v) → entry.id ≡ id
     → AddsSymlink (objects_of old) (objects_of new) id v → new ≡ record old { symlinks = new.symlinks } → AddsEntry old new entry
 symlink_added old new entry v id n is d digest same adds frame =
-    added old new entry id (symlink_object v) d.0 (is, d.1) (digest ∙ whole_digest (string_content v) old.id_length n) same (adds, frame)
+    added old new entry id (symlink_object v) d.0 (λ none. none) (is, d.1) (digest ∙ whole_digest (string_content v) old.id_length n) same (adds, frame)
 
 pub symlink_error : (old : MemoryBackendValue) (entry : LogEntryValue) (v : List ℕ) (cause : BackendError) (e : ReplayError) → old.id_length ≡ digest_length → entry.kind ≡ Symlink → IsUtf8 v × (entry.bytes ≡ v)
     → IsStoreError old.symlinks (object_id old.id_length (string_content v)) v cause → IsConverted cause e → IsEntryError old entry e
@@ -186,7 +188,7 @@ symlink_wrong old entry v id e n is d digest =
 pub copy_added : (old new : MemoryBackendValue) (entry : LogEntryValue) (v : CopyHistoryValue) (id : List ℕ) → old.id_length ≡ digest_length → entry.kind ≡ Copy → IsCopyHistory v × (entry.bytes ≡ copy_history_content v) → id ≡ object_id old.id_length (copy_history_content v) → entry.id ≡ id
     → AddsCopy (objects_of old) (objects_of new) id v → new ≡ record old { copies = new.copies } → AddsEntry old new entry
 copy_added old new entry v id n is d digest same adds frame =
-    added old new entry id (copy_object v) d.0 (is, d.1) (digest ∙ whole_digest (copy_history_content v) old.id_length n) same (adds, frame)
+    added old new entry id (copy_object v) d.0 (λ none. none) (is, d.1) (digest ∙ whole_digest (copy_history_content v) old.id_length n) same (adds, frame)
 
 pub copy_error : (old : MemoryBackendValue) (entry : LogEntryValue) (v : CopyHistoryValue) (cause : BackendError) (e : ReplayError) → old.id_length ≡ digest_length → entry.kind ≡ Copy → IsCopyHistory v × (entry.bytes ≡ copy_history_content v)
     → IsStoreError old.copies (object_id old.id_length (copy_history_content v)) v cause → IsConverted cause e → IsEntryError old entry e
@@ -201,7 +203,7 @@ copy_wrong old entry v id e n is d digest =
 pub tree_added : (old new : MemoryBackendValue) (entry : LogEntryValue) (v : Entries) (id : List ℕ) → old.id_length ≡ digest_length → entry.kind ≡ Tree → IsTree v × (entry.bytes ≡ tree_content v) → id ≡ object_id old.id_length (tree_content v) → entry.id ≡ id
     → AddsTree (objects_of old) (objects_of new) id v → new ≡ record old { trees = new.trees } → AddsEntry old new entry
 tree_added old new entry v id n is d digest same adds frame =
-    added old new entry id (tree_object v) d.0 (is, d.1) (digest ∙ whole_digest (tree_content v) old.id_length n) same (adds, frame)
+    added old new entry id (tree_object v) d.0 (λ none. none) (is, d.1) (digest ∙ whole_digest (tree_content v) old.id_length n) same (adds, frame)
 
 pub tree_error : (old : MemoryBackendValue) (entry : LogEntryValue) (v : Entries) (cause : BackendError) (e : ReplayError) → old.id_length ≡ digest_length → entry.kind ≡ Tree → IsTree v × (entry.bytes ≡ tree_content v)
     → IsStoreError old.trees (object_id old.id_length (tree_content v)) v cause → IsConverted cause e → IsEntryError old entry e
@@ -214,9 +216,9 @@ tree_wrong old entry v id e n is d digest =
     wrong_id old entry id e (ap (λ kind. digest_of kind entry.bytes) is ∙ ap blake2b d.1 ∙ sym (digest ∙ whole_digest (tree_content v) old.id_length n))
 
 pub commit_added : (old new : MemoryBackendValue) (entry : LogEntryValue) (v : CommitValue) (id : List ℕ) → old.id_length ≡ digest_length → entry.kind ≡ Commit → IsCommit v × (entry.bytes ≡ commit_content v) → id ≡ object_id old.id_length (commit_content v) → entry.id ≡ id
-    → AddsCommit (objects_of old) (objects_of new) id v → new ≡ record old { commits = new.commits } → AddsEntry old new entry
-commit_added old new entry v id n is d digest same adds frame =
-    added old new entry id (commit_object v) d.0 (is, d.1) (digest ∙ whole_digest (commit_content v) old.id_length n) same (adds, frame)
+    → v.parents ≢ [] → AddsCommit (objects_of old) (objects_of new) id v → new ≡ record old { commits = new.commits } → AddsEntry old new entry
+commit_added old new entry v id n is d digest same parents adds frame =
+    added old new entry id (commit_object v) d.0 parents (is, d.1) (digest ∙ whole_digest (commit_content v) old.id_length n) same (adds, frame)
 
 pub commit_error : (old : MemoryBackendValue) (entry : LogEntryValue) (v : CommitValue) (cause : BackendError) (e : ReplayError) → old.id_length ≡ digest_length → entry.kind ≡ Commit → IsCommit v × (entry.bytes ≡ commit_content v)
     → MayFailToWrite old (commit_object v) cause → IsConverted cause e → IsEntryError old entry e

@@ -1,4 +1,5 @@
-pub mod Digests
 pub mod EntryErrors
 pub mod StoredObjects
 pub mod ReplayedEntries
+pub mod ReplayedAgain
+pub mod LoggedObjects

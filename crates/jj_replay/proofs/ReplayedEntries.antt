@@ -6,7 +6,8 @@ use Rattle.std.proofs.lemmas.List.Elements.{All-nil, All-push, All-weaker, Conta
 use Rattle.jj_backend.specs.Objects.{Object, file_object, symlink_object, copy_object, tree_object, commit_object}
 use Rattle.jj_trees.specs.MemoryObjects.{MemoryBackendValue, objects_of, digest_length, new_backend}
 use Rattle.jj_mirror.specs.Entries.{LogEntryValue, entry_of}
-use Rattle.jj_replay.specs.Replays.{Stores, IsStored, HasEntry, IsReplay, IsReplayError, IsEntryError}
+use Rattle.jj_mirror.specs.Objects.{Stores}
+use Rattle.jj_replay.specs.Replays.{IsStored, HasEntry, IsReplay, IsReplayError, IsEntryError}
 use Rattle.jj_replay.specs.Writes.{Adds, AddsEntry}
 use Rattle.jj_replay.specs.declared.error.ReplayError.{ReplayError}
 use Rattle.jj_replay.specs.declared.error.ReplayError.TheVariants.{Memory, Malformed, WrongObject, Backend}
@@ -35,24 +36,24 @@ kept_ids old new id (copy_object v) adds = ids_of old new _ adds.1 (refl, refl, 
 kept_ids old new id (tree_object v) adds = ids_of old new _ adds.1 (refl, refl, refl, refl)
 kept_ids old new id (commit_object v) adds = ids_of old new _ adds.1 (refl, refl, refl, refl)
 
-replay_push : (entries : List LogEntryValue) (old new : MemoryBackendValue) (entry : LogEntryValue) → IsReplay entries old → AddsEntry old new entry
+pub replay_push : (entries : List LogEntryValue) (old new : MemoryBackendValue) (entry : LogEntryValue) → IsReplay entries old → AddsEntry old new entry
     → IsReplay (entries ++ entry ∷ []) new
 replay_push entries old new entry replay adds =
     let object = adds.0 in
-    let keeps = adds_keeps old new entry.id object adds.3 in
-    let same = kept_ids old new entry.id object adds.3 in
+    let keeps = adds_keeps old new entry.id object adds.4 in
+    let same = kept_ids old new entry.id object adds.4 in
     record {
       stored = All-push (IsStored (objects_of new)) entries entry
-          (All-weaker (IsStored (objects_of old)) (IsStored (objects_of new)) (λ e s. (s.0, s.1, s.2, keeps e.id s.0 s.3)) entries replay.stored)
-          (object, adds.1, adds.2, adds_found old new entry.id object adds.3);
+          (All-weaker (IsStored (objects_of old)) (IsStored (objects_of new)) (λ e s. (s.0, s.1, s.2, s.3, keeps e.id s.0 s.4)) entries replay.stored)
+          (object, adds.1, adds.2, adds.3, adds_found old new entry.id object adds.4);
       initial = λ id other there. keeps id other (replay.initial id other there);
-      only = λ id other there. elim (adds_only old new entry.id object adds.3 id other there) [
+      only = λ id other there. elim (adds_only old new entry.id object adds.4 id other there) [
         | inl before ↦ elim (replay.only id other before) [
           | inl initial ↦ inl initial
           | inr has ↦ inr (Contains-append_left entries (entry ∷ []) (entry_of other) has.0, has.1)
         ]
         | inr new_one ↦
-            let is : entry ≡ entry_of other = adds.2 ∙ ap entry_of new_one.1 in
+            let is : entry ≡ entry_of other = adds.3 ∙ ap entry_of new_one.1 in
             inr (
               subst (Contains (entries ++ entry ∷ [])) is (Contains-push entries entry),
               ap (λ (e : LogEntryValue). e.id) (sym is) ∙ new_one.0,

@@ -6,7 +6,7 @@ use Rattle.jj_backend.specs.Records.{CopyHistoryValue, CommitValue}
 use Rattle.jj_backend.specs.Trees.{Entries}
 use Rattle.jj_backend.specs.Objects.{ById, put, IsFree, Object, file_object, symlink_object, copy_object, tree_object, commit_object, Objects}
 use Rattle.jj_trees.specs.MemoryObjects.{MemoryBackendValue, objects_of}
-use Rattle.jj_replay.specs.Replays.{Stores}
+use Rattle.jj_mirror.specs.Objects.{Stores}
 use Rattle.jj_replay.specs.Writes.{Adds}
 
 module _ {V : Type 0} (m : ById V) (id : List ℕ) (v : V) where

@@ -1,41 +1,23 @@
 -- The objects that an in-memory backend stores after a log was replayed, and the error of the first
 -- entry that fails.
--- Cited by contracts of public items: IsReplay, IsReplayError.
+-- Cited by contracts of public items: IsReplay, IsReplayError, replay_error.
 use Rattle.std.specs.Prelude.{◌≡◌, ◌≢◌, ◌⊎◌, ⊤, ℕ, List, take, slice_get, Option, Some, All, Contains}
-use Rattle.std.specs.Str.{IsUtf8}
 use Rattle.jj_files.specs.declared.file_util.errors.SourceKind.TheVariants.{Other as OtherKind}
-use Rattle.jj_backend.specs.Contents.{IsCopyHistory, IsCommit}
 use Rattle.jj_backend.specs.Errors.{IsOtherOf}
-use Rattle.jj_backend.specs.Objects.{Object, file_object, symlink_object, copy_object, tree_object, commit_object, Objects}
-use Rattle.jj_backend.specs.TreeLaws.{IsTree}
+use Rattle.jj_backend.specs.Objects.{Object, Objects}
 use Rattle.jj_backend.specs.declared.backend.errors.BackendError.{BackendError}
+use Rattle.jj_backend.specs.declared.backend.errors.BackendError.TheVariants.{Memory as MemoryCause}
 use Rattle.jj_trees.specs.MemoryObjects.{MemoryBackendValue, objects_of, digest_length, new_backend}
 use Rattle.jj_mirror.specs.Entries.{LogEntryValue, entry_of, digest_of}
-use Rattle.jj_mirror.specs.Logs.{IsParentless}
+use Rattle.jj_mirror.specs.Objects.{Stores, IsDigestTaken, IsObject, IsParentless}
 use Rattle.jj_mirror.specs.declared.object_log.ObjectKind.{ObjectKind}
 use Rattle.jj_replay.specs.declared.error.ReplayError.{ReplayError}
 use Rattle.jj_replay.specs.declared.error.ReplayError.TheVariants.{Memory, Malformed, WrongObject, Backend}
 
--- the object is mapped from this id
-abbrev pub Stores : Objects → List ℕ → Object → Type 0
-Stores objects id (file_object contents) = objects.files id ≡ Some contents
-Stores objects id (symlink_object target) = objects.symlinks id ≡ Some target
-Stores objects id (copy_object history) = objects.copies id ≡ Some history
-Stores objects id (tree_object entries) = objects.trees id ≡ Some entries
-Stores objects id (commit_object c) = objects.commits id ≡ Some c
-
--- strings are UTF-8, and records are valid values
-abbrev pub IsObject : Object → Type 0
-IsObject (file_object contents) = ⊤
-IsObject (symlink_object target) = IsUtf8 target
-IsObject (copy_object history) = IsCopyHistory history
-IsObject (tree_object entries) = IsTree entries
-IsObject (commit_object c) = IsCommit c
-
--- the object of the entry is stored under the entry's id
+-- the object of the entry, which is no commit without parents, is stored under the entry's id
 abbrev pub IsStored : Objects → LogEntryValue → Type 0
-IsStored objects entry =
-    (object : Object) × IsObject object × (entry ≡ entry_of object) × Stores objects entry.id object
+IsStored objects entry = (object : Object) × IsObject object × ¬ (IsParentless object)
+    × (entry ≡ entry_of object) × Stores objects entry.id object
 
 -- an entry of the list is that of the object, with this id
 abbrev pub HasEntry : List LogEntryValue → List ℕ → Object → Type 0
@@ -61,15 +43,15 @@ pub record IsReplay (entries : List LogEntryValue) (backend : MemoryBackendValue
 
 -- ---- errors
 
+-- the error of replaying that an error of the backend is
+abbrev pub replay_error : BackendError → ReplayError
+replay_error MemoryCause = Memory
+replay_error cause = Backend cause
+
 -- the entry has the kind and the bytes of the object
 abbrev pub HasBytesOf : LogEntryValue → Object → Type 0
 HasBytesOf entry object =
     (entry.kind ≡ (entry_of object).kind) × (entry.bytes ≡ (entry_of object).bytes)
-
--- a different object of the same kind is stored under the object's digest
-abbrev pub IsDigestTaken : Objects → Object → Type 0
-IsDigestTaken objects object = (other : Object) × ((entry_of other).kind ≡ (entry_of object).kind)
-    × Stores objects (entry_of object).id other × (other ≢ object)
 
 -- the kind and the id are those of the entry
 abbrev pub Names : LogEntryValue → ObjectKind → List ℕ → Type 0

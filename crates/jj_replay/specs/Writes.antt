@@ -4,7 +4,8 @@ use Rattle.std.specs.Prelude.{◌≡◌, ◌≢◌, ⊤, ℕ, List}
 use Rattle.jj_backend.specs.Objects.{Object, file_object, symlink_object, copy_object, tree_object, commit_object, AddsFile, AddsSymlink, AddsCopy, AddsTree, AddsCommit}
 use Rattle.jj_trees.specs.MemoryObjects.{MemoryBackendValue, objects_of}
 use Rattle.jj_mirror.specs.Entries.{LogEntryValue, entry_of}
-use Rattle.jj_replay.specs.Replays.{IsObject, Names}
+use Rattle.jj_mirror.specs.Objects.{IsObject, IsParentless}
+use Rattle.jj_replay.specs.Replays.{Names}
 use Rattle.jj_replay.specs.declared.error.ReplayError.{ReplayError}
 use Rattle.jj_replay.specs.declared.error.ReplayError.TheVariants.{Memory, Malformed, WrongObject, Backend}
 
@@ -21,10 +22,10 @@ Adds old new id (tree_object entries) = AddsTree (objects_of old) (objects_of ne
 Adds old new id (commit_object c) = AddsCommit (objects_of old) (objects_of new) id c
     × (new ≡ record old { commits = new.commits })
 
--- the new backend is the old one with the object of the entry
+-- the new backend is the old one with the object of the entry, which is no commit without parents
 abbrev pub AddsEntry : MemoryBackendValue → MemoryBackendValue → LogEntryValue → Type 0
-AddsEntry old new entry =
-    (object : Object) × IsObject object × (entry ≡ entry_of object) × Adds old new entry.id object
+AddsEntry old new entry = (object : Object) × IsObject object × ¬ (IsParentless object)
+    × (entry ≡ entry_of object) × Adds old new entry.id object
 
 -- a malformed entry, named by the error, or out of memory
 abbrev pub NamesEntry : LogEntryValue → ReplayError → Type 0

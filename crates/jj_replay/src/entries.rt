@@ -1,5 +1,5 @@
 //! Writing the object of a log's entry to an in-memory backend.
-ghost use Rattle.std.specs.Prelude.{◌≡◌, ◌↔◌, IsTrue, IfOk, IfErr, OnOk};
+ghost use Rattle.std.specs.Prelude.{◌≡◌, ◌≢◌, ◌↔◌, [], IsTrue, IfOk, IfErr, OnOk};
 ghost use Rattle.std.specs.Str.{IsUtf8};
 ghost use Rattle.jj_backend.specs.Contents.{commit_content};
 ghost use Rattle.jj_backend.specs.Objects.{AddsCommit, commit_object};
@@ -168,6 +168,7 @@ fn store_commit(
         AddsCommit (objects_of backend.old) (objects_of backend.new) id commit) }
     ensures id { IfOk result (λ id.
         id ≡ object_id backend.old.id_length (commit_content commit)) }
+    ensures parents { OnOk result (commit.parents ≢ []) }
     ensures frame { backend.new ≡ record backend.old { commits = backend.new.commits } }
     ensures error { IfErr result (MayFailToWrite backend.old (commit_object commit)) }
 {

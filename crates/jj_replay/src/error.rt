@@ -1,8 +1,4 @@
 //! Errors of replaying a log.
-ghost use Rattle.std.specs.Prelude.{◌≡◌, ◌≢◌, ◌⊎◌};
-ghost use Rattle.jj_backend.specs.declared.backend.errors.BackendError.TheVariants.{Memory as MemoryCause};
-ghost use Rattle.jj_replay.specs.declared.error.ReplayError.TheVariants.{Memory, Backend};
-
 use jj_backend::backend::BackendError;
 use jj_decode::error::Malformation;
 use jj_mirror::object_log::ObjectKind;
@@ -35,6 +31,9 @@ pub enum ReplayError {
 }
 
 impl From<AllocError> for ReplayError {
+    ghost use Rattle.std.specs.Prelude.{◌≡◌};
+    ghost use Rattle.jj_replay.specs.declared.error.ReplayError.TheVariants.{Memory};
+
     ghost from_gives = { λ _ error. error ≡ Memory };
 
     fn from(_failure: AllocError) -> Self {
@@ -43,8 +42,10 @@ impl From<AllocError> for ReplayError {
 }
 
 impl From<BackendError> for ReplayError {
-    ghost from_gives = { λ cause error. (error ≡ Memory)
-        ⊎ ((error ≡ Backend cause) × (cause ≢ MemoryCause)) };
+    ghost use Rattle.std.specs.Prelude.{◌≡◌};
+    ghost use Rattle.jj_replay.specs.Replays.{replay_error};
+
+    ghost from_gives = { λ cause error. error ≡ replay_error cause };
 
     fn from(error: BackendError) -> Self {
         match error {

@@ -1,5 +1,6 @@
 //! Replaying a log of written objects into an in-memory backend.
-ghost use Rattle.std.specs.Prelude.{IfOk, IfErr};
+ghost use Rattle.std.specs.Prelude.{◌≡◌, IfOk, IfErr};
+ghost use Rattle.jj_trees.specs.MemoryObjects.{MemoryBackendValue};
 ghost use Rattle.jj_replay.specs.Replays.{IsReplay, IsReplayError};
 
 use crate::entries::write_entry;
@@ -17,6 +18,9 @@ pub fn replay(alloc: Global, entries: &[LogEntry]) -> Result<MemoryBackend, Repl
     // initial objects of a new backend.
     ensures ok { IfOk result (IsReplay entries.now) }
     ensures error { IfErr result (IsReplayError entries.now) }
+    // If a backend is the replay of these entries, replaying them fails only for memory.
+    ensures again { (backend : MemoryBackendValue) → IsReplay entries.now backend
+        → IfErr result (λ e. e ≡ ReplayError.Memory) }
 {
     let mut backend = MemoryBackend::new(alloc)?;
     for entry in entries {

@@ -3,4 +3,4 @@ pub mod Crashes
 pub mod RowErrors
 pub mod Replayed
 pub mod Reopened
-pub mod WrongObjects
+pub mod Faults

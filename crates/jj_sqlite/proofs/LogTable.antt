@@ -469,13 +469,17 @@ keeps_reading old new rows entries has h = unchanged old new entries has (shown_
 pub reading_commits_nothing : (s : State) (entries : List LogEntryValue) (db : Trees) → HasEntries s entries → ¬ CommitsShowing select_statement [] s db
 reading_commits_nothing s entries db has = never_commits select_statement [] s db (subst (λ k. IsPlain (understood k select_statement)) (sym has.schema) select_plain)
 
+-- the rows that are shown are those of the table
+pub shown_rows : (old new : State) (rows : List Row) (entries : List LogEntryValue) → HasEntries old entries → Shown select_statement [] old new rows → IsPermutation rows (map entry_row entries)
+shown_rows old new rows entries has h =
+    let answer = (reads_as select_statement [] old new log_schema has.schema _ select_is.0 select_plain select_is.1 rows h).answer in
+    let shown = shows_all old.now.trees rows (answer Null) in
+    IsPermutation-trans rows (map logged_columns (old.now.trees 0)) (map entry_row entries) (IsPermutation-sym (map logged_columns (old.now.trees 0)) rows shown) has.rows
+
 -- the entries of the rows that are shown are those of the table
 pub shown_entries : (old new : State) (rows : List Row) (entries : List LogEntryValue) → HasEntries old entries → Shown select_statement [] old new rows → IsPermutation (map entry_in rows) entries
 shown_entries old new rows entries has h =
-    let answer = (reads_as select_statement [] old new log_schema has.schema _ select_is.0 select_plain select_is.1 rows h).answer in
-    let shown = shows_all old.now.trees rows (answer Null) in
-    let same = IsPermutation-trans rows (map logged_columns (old.now.trees 0)) (map entry_row entries) (IsPermutation-sym (map logged_columns (old.now.trees 0)) rows shown) has.rows in
-    subst (λ (l : List LogEntryValue). IsPermutation (map entry_in rows) l) (same_entries entries) (IsPermutation-map entry_in rows (map entry_row entries) same)
+    subst (λ (l : List LogEntryValue). IsPermutation (map entry_in rows) l) (same_entries entries) (IsPermutation-map entry_in rows (map entry_row entries) (shown_rows old new rows entries has h))
 
 -- the entries that are read are those of the table
 pub reads : (old new : State) (rows : List Row) (read entries : List LogEntryValue) → HasEntries old entries → Shown select_statement [] old new rows → AllZip IsGoodRow rows read

@@ -1,8 +1,10 @@
 -- The entries of a log as the rows of its table, and the errors of an insertion.
--- Cited by contracts of public items: ContainsEntries, FailsToInsert,
+-- Cited by contracts of public items: ContainsEntries, ConvertsTo, FailsToInsert,
 -- HasEntriesAfterCrash, MayFailToInsert, StoresEntries, WasNewOrContains.
 use Rattle.std.specs.Prelude.{◌≡◌, ◌⊎◌, ◌++◌, ◌∷◌, [], List, Err, IsTrue}
 use Rattle.sqlite.specs.declared.error.Error.{Error}
+use Rattle.sqlite.specs.declared.error.Error.TheVariants.{SqliteFailure}
+use Rattle.sqlite.specs.declared.error.ErrorCode.TheVariants.{OutOfMemory}
 use Rattle.sqlite.specs.Store.{Ghosts}
 use Rattle.sqlite.specs.State.{State, HasCleanDisk}
 use Rattle.sqlite.specs.Held.{Held, state}
@@ -13,6 +15,12 @@ use Rattle.jj_backend.specs.declared.backend.errors.BackendError.TheVariants.{Me
 use Rattle.jj_mirror.specs.Entries.{LogEntryValue}
 use Rattle.jj_sqlite.specs.Crashes.{LeavesEntries, RunsAsIs}
 use Rattle.jj_sqlite.specs.Tables.{HasEntries, IsNewOrHas, insert_statement, entry_row}
+
+-- the error of appending that an error of SQLite is: Memory if memory ran out, else Other of kind
+-- Io
+abbrev pub ConvertsTo : Error → BackendError → Type 0
+ConvertsTo (SqliteFailure OutOfMemory) e = e ≡ Memory
+ConvertsTo cause e = IsOtherOf Io e
 
 -- the table has the rows of these entries, or of these and one more, whose write failed
 abbrev pub HasEntriesAfterCrash : State → List LogEntryValue → Type 0
@@ -42,7 +50,7 @@ module _ {S : Type 0} (g : Ghosts S) where
   FailsToInsert entry old new e = HasCleanDisk (state g new)
       → RunsAsIs g insert_statement (entry_row entry) old new (Err e)
 
-  -- the errors of appending an entry: out of memory, or Other of kind Io if the statement fails
+  -- the errors of appending an entry: those of its statement
   abbrev pub MayFailToInsert : Held S → LogEntryValue → BackendError → Type 0
-  MayFailToInsert conn entry e = (e ≡ Memory)
-      ⊎ ((new : Held S) × (cause : Error) × FailsToInsert entry conn new cause × IsOtherOf Io e)
+  MayFailToInsert conn entry e = (new : Held S) × (cause : Error)
+      × FailsToInsert entry conn new cause × ConvertsTo cause e

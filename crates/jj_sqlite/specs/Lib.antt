@@ -3,4 +3,5 @@ pub mod Crashes
 pub mod Inserts
 pub mod Rows
 pub mod Opening
-pub mod WrongObjects
+pub mod Closing
+pub mod Faults

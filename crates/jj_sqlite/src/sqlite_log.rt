@@ -6,14 +6,13 @@ ghost use Rattle.sqlite.specs.Held.{state};
 ghost use Rattle.sqlite.specs.Order.{Row};
 ghost use Rattle.sqlite.specs.State.{HasCleanDisk, FailsToQuery, Shown, CommitsShowing, Survives};
 ghost use Rattle.sqlite.specs.Values.{bound};
-ghost use Rattle.jj_backend.specs.Errors.{IsOtherOf};
 ghost use Rattle.jj_mirror.specs.Entries.{LogEntryValue};
 ghost use Rattle.jj_mirror.specs.Logs.{Appends, Keeps};
 ghost use Rattle.jj_sqlite.specs.Tables.{create_statement, insert_statement, select_statement};
 ghost use Rattle.jj_sqlite.specs.Tables.{entry_row};
 ghost use Rattle.jj_sqlite.specs.Crashes.{CommitsAsIs, HasLog, RunsAsIs};
-ghost use Rattle.jj_sqlite.specs.Inserts.{ContainsEntries, FailsToInsert, MayFailToInsert};
-ghost use Rattle.jj_sqlite.specs.Inserts.{StoresEntries, WasNewOrContains};
+ghost use Rattle.jj_sqlite.specs.Inserts.{ContainsEntries, ConvertsTo, FailsToInsert};
+ghost use Rattle.jj_sqlite.specs.Inserts.{MayFailToInsert, StoresEntries, WasNewOrContains};
 ghost use Rattle.jj_sqlite.specs.Rows.{IsEntryRow, IsGoodRow, IsRowError, IsReadError};
 ghost use Rattle.jj_sqlite.specs.Opening.{IsCreated, FailsToCreate, FailsToRead};
 
@@ -196,18 +195,19 @@ fn insert_entry<S: Alter>(
     )
 }
 
+// Converts an error of SQLite. The message is empty if memory runs out for it.
 fn convert_error(alloc: Global, error: Error) -> BackendError
-    ensures { (result ≡ BackendError.Memory) ⊎ IsOtherOf SourceKind.Io result }
+    ensures { ConvertsTo error result }
 {
-    if error == Error::SqliteFailure(ErrorCode::OutOfMemory) {
-        return BackendError::Memory;
-    }
-    match format!(in alloc; "{error}") {
-        Ok(message) => BackendError::Other(SourceError {
+    match error {
+        Error::SqliteFailure(ErrorCode::OutOfMemory) => BackendError::Memory,
+        error => BackendError::Other(SourceError {
             kind: SourceKind::Io,
-            message,
+            message: match format!(in alloc; "{error}") {
+                Ok(message) => message,
+                Err(_) => String::new(alloc),
+            },
         }),
-        Err(_) => BackendError::Memory,
     }
 }
 
@@ -237,9 +237,9 @@ impl<S: Alter> ObjectLog for SqliteLog<S> {
             (entries ++ record { kind = kind; id = id.now; bytes = bytes.now } ∷ [])) }
         ensures error { IfErr result (MayFailToInsert S.Store self.old.conn
             (record { kind = kind; id = id.now; bytes = bytes.now })) }
-        ensures cause { IfErr result (λ e. (e ≡ BackendError.Memory) ⊎ ((cause : Error)
+        ensures cause { IfErr result (λ e. (cause : Error)
             × FailsToInsert S.Store (record { kind = kind; id = id.now; bytes = bytes.now })
-            self.old.conn self.new.conn cause × IsOtherOf SourceKind.Io e)) }
+            self.old.conn self.new.conn cause × ConvertsTo cause e) }
     {
         match insert_entry(&mut self.conn, kind, id, bytes) {
             Ok(_) => Ok(()),

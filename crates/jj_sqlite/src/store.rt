@@ -1,20 +1,25 @@
-//! Opening a backend whose objects are stored in an SQLite database.
-ghost use Rattle.std.specs.Prelude.{◌⊎◌, List, IfOk, IfErr, OnOk};
+//! Opening and closing a backend whose objects are stored in an SQLite database.
+ghost use Rattle.std.specs.Prelude.{◌≡◌, ◌⊎◌, IsTrue, List, IfOk, IfErr, OnOk};
+ghost use Rattle.sqlite.specs.Files.{over_files};
 ghost use Rattle.sqlite.specs.Held.{state};
 ghost use Rattle.sqlite.specs.State.{HasCleanDisk};
 ghost use Rattle.jj_mirror.specs.Entries.{LogEntryValue};
 ghost use Rattle.jj_mirror.specs.Logs.{Keeps};
 ghost use Rattle.jj_replay.specs.Replays.{IsReplay};
+ghost use Rattle.jj_trees.specs.MemoryObjects.{digest_length};
 ghost use Rattle.jj_sqlite.specs.Inserts.{ContainsEntries, StoresEntries, WasNewOrContains};
 ghost use Rattle.jj_sqlite.specs.Opening.{IsOpened, IsOpenError, IsReplayed};
 ghost use Rattle.jj_sqlite.specs.Opening.{FailsToRead, FailsToReplay};
+ghost use Rattle.jj_sqlite.specs.Opening.{sqlite_error};
+ghost use Rattle.jj_sqlite.specs.Closing.{CrashContains, FilesContain, IsBackup};
 
 use crate::error::OpenError;
 use crate::sqlite_log::SqliteLog;
 use jj_mirror::mirrored::Mirrored;
 use jj_replay::replay::replay;
 use jj_trees::memory_backend::MemoryBackend;
-use sqlite::{Alter, Connection};
+use sqlite::{Alter, Connection, Error, FileStore};
+use sqlite_disk::{Disk, Files};
 use std::alloc::Global;
 
 // Replays the entries of a log.
@@ -24,6 +29,7 @@ fn replay_log<S: Alter>(alloc: Global, log: &mut SqliteLog<S>) -> Result<MemoryB
     ensures entries { HasCleanDisk (state S.Store log.new.conn) → IfOk result (λ backend.
         (entries : List LogEntryValue) → ContainsEntries S.Store log.old.conn entries
         → IsReplay entries backend) }
+    ensures whole { IfOk result (λ backend. backend.id_length ≡ digest_length) }
     ensures kept { OnOk result (Keeps (StoresEntries S.Store) log.old.conn log.new.conn) }
     ensures clean { HasCleanDisk (state S.Store log.new.conn)
         → HasCleanDisk (state S.Store log.old.conn) }
@@ -36,13 +42,25 @@ fn replay_log<S: Alter>(alloc: Global, log: &mut SqliteLog<S>) -> Result<MemoryB
     Ok(backend)
 }
 
+// Puts a backend with whole digests beside its log.
+fn beside<S: Alter>(backend: MemoryBackend, log: SqliteLog<S>) -> Mirrored<SqliteLog<S>>
+    requires { backend.id_length ≡ digest_length }
+    ensures backend { result.backend ≡ backend }
+    ensures log { result.log ≡ log }
+{
+    match Mirrored::new(backend, log) {
+        Ok(store) => store,
+        Err(_) => unreachable!(),
+    }
+}
+
 /// Opens the backend whose log is in a database: reads the entries and replays them into a backend
 /// in memory. Creates the log if there is none. The backend has whole digests as ids. Fails as
 /// `SqliteLog::over`, `read_entries` and `replay` do; an error returns the connection too.
 pub fn open_store<S: Alter>(
     alloc: Global,
     conn: Connection<S>,
-) -> Result<Mirrored<MemoryBackend, SqliteLog<S>>, (OpenError, Connection<S>)>
+) -> Result<Mirrored<SqliteLog<S>>, (OpenError, Connection<S>)>
     ensures ok { IfOk result (λ store. HasCleanDisk (state S.Store store.log.conn)
         → IsOpened S.Store conn store.log.conn store.backend) }
     // If the table has exactly the rows of these entries, the backend stores their objects.
@@ -64,7 +82,56 @@ pub fn open_store<S: Alter>(
         Err(error) => return Err(error),
     };
     match replay_log(alloc, &mut log) {
-        Ok(backend) => Ok(Mirrored::new(backend, log)),
+        Ok(backend) => Ok(beside(backend, log)),
         Err(error) => Err((error, log.into_connection())),
     }
+}
+
+/// Copies SQLite's write-ahead log into the database file: a copy of that file is a backup then.
+/// Returns both files. Fails with `Sqlite`, or with `Memory` if memory runs out; the files are
+/// closed then.
+pub fn close_database<D: Disk + Drop>(conn: Connection<FileStore<D>>) -> Result<Files<D>, OpenError>
+    // Whoever opens the files finds the entries of the log.
+    ensures entries { IfOk result (λ files. (entries : List LogEntryValue)
+        → ContainsEntries over_files conn entries → FilesContain D.Disk files entries) }
+    // Whoever opens what a crash leaves of the files finds the entries.
+    ensures crash { IfOk result (λ files. (entries : List LogEntryValue)
+        → ContainsEntries over_files conn entries → CrashContains D.Disk files entries) }
+    // Whoever opens a copy of the database file finds the entries.
+    ensures backup { IfOk result (λ files. (entries : List LogEntryValue)
+        → ContainsEntries over_files conn entries → IsBackup D.Disk files entries) }
+    ensures log { IfOk result (λ files. IsTrue (D.Disk.is_usable files.log)) }
+    ensures db { IfOk result (λ files. IsTrue (D.Disk.is_usable files.db)) }
+    ensures error { IfErr result (λ e. (cause : Error) × (e ≡ sqlite_error cause)) }
+{
+    let _schema = conn.schema();
+    match conn.close_files() {
+        Ok(files) => Ok(files),
+        Err((error, store)) => {
+            drop(store.close());
+            Err(OpenError::from(error))
+        }
+    }
+}
+
+/// Closes a store: the database file has all its objects then, and a copy of it is a backup.
+/// Returns the files. Fails as `close_database` does.
+pub fn close_store<D: Disk + Drop>(
+    store: Mirrored<SqliteLog<FileStore<D>>>,
+) -> Result<Files<D>, OpenError>
+    ensures entries { IfOk result (λ files. (entries : List LogEntryValue)
+        → ContainsEntries over_files store.log.conn entries
+        → FilesContain D.Disk files entries) }
+    ensures crash { IfOk result (λ files. (entries : List LogEntryValue)
+        → ContainsEntries over_files store.log.conn entries
+        → CrashContains D.Disk files entries) }
+    ensures backup { IfOk result (λ files. (entries : List LogEntryValue)
+        → ContainsEntries over_files store.log.conn entries
+        → IsBackup D.Disk files entries) }
+    ensures log { IfOk result (λ files. IsTrue (D.Disk.is_usable files.log)) }
+    ensures db { IfOk result (λ files. IsTrue (D.Disk.is_usable files.db)) }
+    ensures error { IfErr result (λ e. (cause : Error) × (e ≡ sqlite_error cause)) }
+{
+    let (_, log) = store.into_parts();
+    close_database(log.into_connection())
 }

@@ -1,42 +1,21 @@
--- The entries of a log in the closed files of its database.
--- Cited by contracts of public items: CrashContains, CrashLeaves, FilesContain,
--- HasReplayAfterCrash, ImageContains, MayContain, file_entry.
+-- The entries of a log after a crash.
+-- Cited by contracts of public items: CrashLeaves, HasReplayAfterCrash, MayContain, file_entry.
 use Rattle.std.specs.Prelude.{◌⊎◌, ◌++◌, ◌∷◌, [], ℕ, List}
 use Rattle.sqlite_wal.specs.Recovery.{Image}
-use Rattle.sqlite_wal.specs.Files.{outcomes}
-use Rattle.sqlite_wal.specs.Reads.{AreClean}
 use Rattle.sqlite_disk.specs.declared.Disk.{Ghosts}
-use Rattle.sqlite_disk.specs.declared.Files.{Files}
 use Rattle.sqlite_store.specs.declared.store.FileStore.{FileStore}
 use Rattle.sqlite_store.specs.FileStore as store
-use Rattle.sqlite.specs.Files.{file_state, over_files, Finds, HoldsDatabase, IsOpened}
-use Rattle.sqlite.specs.Held.{Held}
+use Rattle.sqlite.specs.Files.{HoldsDatabase}
 use Rattle.sqlite.specs.Tree.{Trees}
-use Rattle.sqlite.specs.State.{HasCleanDisk}
 use Rattle.jj_backend.specs.Objects.{file_object}
 use Rattle.jj_mirror.specs.Entries.{LogEntryValue, entry_of}
 use Rattle.jj_replay.specs.Replays.{IsReplay}
 use Rattle.jj_trees.specs.MemoryObjects.{MemoryBackendValue}
-use Rattle.jj_sqlite.specs.Crashes.{HasLog, HasLogAfterCrash}
-use Rattle.jj_sqlite.specs.Inserts.{ContainsEntries}
+use Rattle.jj_sqlite.specs.Crashes.{HasLogAfterCrash}
 
 -- the entry of a file
 abbrev pub file_entry : List ℕ → LogEntryValue
 file_entry contents = entry_of (file_object contents)
-
--- each connection that is opened on the files has exactly the rows of these entries in its table
-abbrev pub FilesContain : {D : Type 0} (g : Ghosts D) → Files D → List LogEntryValue → Type 0
-FilesContain {D} g files entries = (conn : Held (FileStore D g)) → HasCleanDisk (file_state conn)
-    → Finds files conn → IsOpened conn → ContainsEntries over_files conn entries
-
--- this content of the files holds the database of a log with these entries
-abbrev pub ImageContains : Image → List LogEntryValue → Type 0
-ImageContains image entries = ∥ ((db : Trees) × HoldsDatabase image db × HasLog db entries) ∥₁
-
--- so has each content of the closed files that a crash at this moment may leave
-abbrev pub CrashContains : {D : Type 0} (g : Ghosts D) → Files D → List LogEntryValue → Type 0
-CrashContains g files entries = AreClean g files.log files.db → (image : Image)
-    → outcomes g files.log files.db image → ImageContains image entries
 
 -- this content of the files holds the database of a log with these entries, and at most one more,
 -- whose write failed

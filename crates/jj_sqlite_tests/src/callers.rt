@@ -1,52 +1,45 @@
 //! Proved callers: a commit that is read from a database by a later process.
-ghost use Rattle.std.specs.Prelude.{◌≡◌, ◌++◌, [], ◌∷◌, true, IsTrue, List, All, Contains, IfOk, IfErr, OnOk};
+ghost use Rattle.std.specs.Prelude.{◌≡◌, ◌++◌, [], ◌∷◌, IsTrue, List, All, Contains, IfOk, IfErr, OnOk};
 ghost use Rattle.sqlite.specs.Files.{file_state, over_files};
 ghost use Rattle.sqlite.specs.Held.{state};
 ghost use Rattle.sqlite.specs.State.{HasCleanDisk};
 ghost use Rattle.jj_content.specs.Blake2b.{blake2b};
 ghost use Rattle.jj_backend.specs.Contents.{IsCommit, commit_content};
 ghost use Rattle.jj_backend.specs.Objects.{commit_object};
-ghost use Rattle.jj_backend.specs.Records.{CommitValue, commit_eq};
+ghost use Rattle.jj_backend.specs.Records.{CommitValue};
 ghost use Rattle.jj_mirror.specs.Entries.{LogEntryValue, entry_of};
 ghost use Rattle.jj_mirror.specs.Logs.{Appends};
 ghost use Rattle.jj_sqlite.specs.Inserts.{ContainsEntries, StoresEntries, WasNewOrContains};
 ghost use Rattle.jj_sqlite.specs.Rows.{HasDigest};
-ghost use Rattle.jj_sqlite.specs.WrongObjects.{HasWrongObject};
-ghost use Rattle.jj_sqlite_tests.specs.SavedFiles.{CrashContains, FilesContain};
+ghost use Rattle.jj_sqlite.specs.Faults.{HasFault};
+ghost use Rattle.jj_sqlite.specs.Closing.{CrashContains, FilesContain, IsBackup};
 
 use jj_backend::backend::{Backend, BackendResult, Commit, CommitId, NoSigner};
-use jj_content::content_hash::blake2b_hash;
 use jj_mirror::mirrored::Mirrored;
 use jj_sqlite::error::OpenError;
 use jj_sqlite::sqlite_log::SqliteLog;
-use jj_sqlite::store::open_store;
-use jj_trees::memory_backend::MemoryBackend;
+use jj_sqlite::store::{close_database, open_store};
 use sqlite::{Alter, Connection, FileStore, Options};
 use sqlite_disk::{Disk, Files};
-use std::alloc::{AllocError, Global};
+use std::alloc::Global;
 
 fn log_commit<S: Alter>(
     alloc: Global,
-    store: &mut Mirrored<MemoryBackend, SqliteLog<S>>,
+    store: &mut Mirrored<SqliteLog<S>>,
     commit: Commit,
-) -> BackendResult<()>
-    ensures { OnOk result (Appends (StoresEntries S.Store) store.old.log.conn store.new.log.conn
-        (entry_of (commit_object commit))) }
+) -> BackendResult<CommitId>
+    ensures id { IfOk result (λ id. id ≡ blake2b (commit_content commit)) }
+    ensures value { OnOk result (IsCommit commit) }
+    ensures logged { OnOk result (Appends (StoresEntries S.Store) store.old.log.conn
+        store.new.log.conn (entry_of (commit_object commit))) }
 {
-    store.write_commit(alloc, commit, None::<&mut NoSigner>)?;
-    Ok(())
-}
-
-fn commit_id(alloc: Global, commit: &Commit) -> Result<CommitId, AllocError>
-    ensures id { IfOk result (λ id. id ≡ blake2b (commit_content commit.now)) }
-    ensures value { OnOk result (IsCommit commit.now) }
-{
-    let digest = blake2b_hash(alloc, commit)?;
-    CommitId::from_bytes(alloc, &digest)
+    let stored = store.write_commit(alloc, commit, None::<&mut NoSigner>)?;
+    let (id, _) = stored;
+    Ok(id)
 }
 
 /// Opens a store over a database and writes a commit, whose row is then in the table of the log.
-/// Returns the digest as an id, and the connection.
+/// Returns the id that the write returned, the commit's digest, and the connection.
 pub fn write_stored<S: Alter>(
     alloc: Global,
     conn: Connection<S>,
@@ -58,9 +51,6 @@ pub fn write_stored<S: Alter>(
         → WasNewOrContains S.Store conn entries → StoresEntries S.Store result.1
         (entries ++ entry_of (commit_object commit) ∷ [])) }
 {
-    let Ok(id) = commit_id(alloc, &commit) else {
-        return (Err(OpenError::Memory), conn);
-    };
     let mut store = match open_store(alloc, conn) {
         Ok(store) => store,
         Err((error, conn)) => return (Err(error), conn),
@@ -68,7 +58,7 @@ pub fn write_stored<S: Alter>(
     let written = log_commit(alloc, &mut store, commit);
     let (_, log) = store.into_parts();
     match written {
-        Ok(()) => (Ok(id), log.into_connection()),
+        Ok(id) => (Ok(id), log.into_connection()),
         Err(error) => (Err(OpenError::Backend(error)), log.into_connection()),
     }
 }
@@ -84,7 +74,7 @@ pub fn read_stored<S: Alter>(
         (entries : List LogEntryValue) → WasNewOrContains S.Store conn entries
         → (commit : CommitValue) → IsCommit commit
         → Contains entries (entry_of (commit_object commit))
-        → id.now ≡ blake2b (commit_content commit) → commit_eq commit read ≡ true) }
+        → id.now ≡ blake2b (commit_content commit) → read ≡ commit) }
 {
     let store = match open_store(alloc, conn) {
         Ok(store) => store,
@@ -97,27 +87,9 @@ pub fn read_stored<S: Alter>(
     }
 }
 
-// Closes the files of a database.
-fn close_database<D: Disk + Drop>(conn: Connection<FileStore<D>>) -> Result<Files<D>, OpenError>
-    ensures entries { IfOk result (λ files. (entries : List LogEntryValue)
-        → ContainsEntries over_files conn entries → FilesContain D.Disk files entries) }
-    ensures crash { IfOk result (λ files. (entries : List LogEntryValue)
-        → ContainsEntries over_files conn entries → CrashContains D.Disk files entries) }
-    ensures log { IfOk result (λ files. IsTrue (D.Disk.is_usable files.log)) }
-    ensures db { IfOk result (λ files. IsTrue (D.Disk.is_usable files.db)) }
-{
-    let _schema = conn.schema();
-    match conn.close_files() {
-        Ok(files) => Ok(files),
-        Err((error, store)) => {
-            drop(store.close());
-            Err(OpenError::from(error))
-        }
-    }
-}
-
 /// Writes a commit to the files of a database and closes them: whoever opens the files finds its
-/// entry in the log, also after a crash. Returns the digest as an id, and the files.
+/// entry in the log, also after a crash or in a copy of the database file. Returns the id that the
+/// write returned, and the files.
 pub fn save_commit<D: Disk + Drop>(
     alloc: Global,
     conn: Connection<FileStore<D>>,
@@ -131,6 +103,9 @@ pub fn save_commit<D: Disk + Drop>(
     ensures crash { IfOk result (λ saved. (entries : List LogEntryValue)
         → WasNewOrContains over_files conn entries
         → CrashContains D.Disk saved.1 (entries ++ entry_of (commit_object commit) ∷ [])) }
+    ensures backup { IfOk result (λ saved. (entries : List LogEntryValue)
+        → WasNewOrContains over_files conn entries
+        → IsBackup D.Disk saved.1 (entries ++ entry_of (commit_object commit) ∷ [])) }
     ensures log { IfOk result (λ saved. IsTrue (D.Disk.is_usable saved.1.log)) }
     ensures db { IfOk result (λ saved. IsTrue (D.Disk.is_usable saved.1.db)) }
 {
@@ -154,7 +129,7 @@ pub fn load_commit<D: Disk + Drop>(
         → (entries : List LogEntryValue) → FilesContain D.Disk files entries
         → (commit : CommitValue) → IsCommit commit
         → Contains entries (entry_of (commit_object commit))
-        → id.now ≡ blake2b (commit_content commit) → commit_eq commit loaded.0 ≡ true) }
+        → id.now ≡ blake2b (commit_content commit) → loaded.0 ≡ commit) }
 {
     let conn = match Connection::open_files(alloc, files, options) {
         Ok(conn) => conn,
@@ -164,8 +139,8 @@ pub fn load_commit<D: Disk + Drop>(
     Ok((read?, conn))
 }
 
-/// Writes a commit to the files of a database and closes them. Opens them again and reads an equal
-/// commit.
+/// Writes a commit to the files of a database and closes them. Opens them again and reads the
+/// commit by the id that the write returned.
 pub fn reread_commit<D: Disk + Drop>(
     alloc: Global,
     conn: Connection<FileStore<D>>,
@@ -174,7 +149,7 @@ pub fn reread_commit<D: Disk + Drop>(
 ) -> Result<(Commit, Connection<FileStore<D>>), OpenError>
     ensures { IfOk result (λ reread. HasCleanDisk (file_state reread.1)
         → (entries : List LogEntryValue) → WasNewOrContains over_files conn entries
-        → commit_eq commit reread.0 ≡ true) }
+        → reread.0 ≡ commit) }
 {
     let saved = save_commit(alloc, conn, commit)?;
     let (id, files) = saved;
@@ -182,7 +157,7 @@ pub fn reread_commit<D: Disk + Drop>(
 }
 
 /// Opens a store over a database. If that succeeds, each entry in the log has the digest of its
-/// object as its id; else `WrongObject` names an entry that has not.
+/// object as its id; else the log has the fault that the error names.
 pub fn check_objects<S: Alter>(
     alloc: Global,
     conn: Connection<S>,
@@ -192,7 +167,7 @@ pub fn check_objects<S: Alter>(
         → All HasDigest entries) }
     ensures error { HasCleanDisk (state S.Store conn) → HasCleanDisk (state S.Store result.1)
         → IfErr result.0 (λ e. (entries : List LogEntryValue)
-        → WasNewOrContains S.Store conn entries → HasWrongObject entries e) }
+        → WasNewOrContains S.Store conn entries → HasFault entries e) }
 {
     match open_store(alloc, conn) {
         Ok(store) => {

@@ -18,7 +18,6 @@ use jj_paths::repo_path::RepoPath;
 use jj_sqlite::error::OpenError;
 use jj_sqlite::sqlite_log::SqliteLog;
 use jj_sqlite::store::open_store;
-use jj_trees::memory_backend::MemoryBackend;
 use sqlite::{Alter, Connection, FileStore};
 use sqlite_disk::Disk;
 use std::alloc::Global;
@@ -26,7 +25,7 @@ use std::alloc::Global;
 // Writes a file to a store.
 fn log_file<S: Alter>(
     alloc: Global,
-    store: &mut Mirrored<MemoryBackend, SqliteLog<S>>,
+    store: &mut Mirrored<SqliteLog<S>>,
     contents: &[u8],
 ) -> BackendResult<()>
     ensures ok { OnOk result (Appends (StoresEntries S.Store) store.old.log.conn
@@ -43,7 +42,7 @@ fn log_file<S: Alter>(
 /// that were written, none of them skipped, and a crash leaves all of them and at most one more.
 pub fn write_files<S: Alter>(
     alloc: Global,
-    store: &mut Mirrored<MemoryBackend, SqliteLog<S>>,
+    store: &mut Mirrored<SqliteLog<S>>,
     files: &[Vec<u8>],
 ) -> BackendResult<()>
     ensures ok { OnOk result ((entries : List LogEntryValue)
@@ -74,7 +73,7 @@ pub fn abandon<D: Disk + Drop>(conn: Connection<FileStore<D>>) -> FileStore<D>
 pub fn open_after_crash<S: Alter>(
     alloc: Global,
     conn: Connection<S>,
-) -> Result<Mirrored<MemoryBackend, SqliteLog<S>>, (OpenError, Connection<S>)>
+) -> Result<Mirrored<SqliteLog<S>>, (OpenError, Connection<S>)>
     ensures { IfOk result (λ store. HasCleanDisk (state S.Store store.log.conn)
         → (image : Image) → FindsIn image (state S.Store conn) → Opens (state S.Store conn)
         → IsLive (state S.Store conn) → (entries : List LogEntryValue)

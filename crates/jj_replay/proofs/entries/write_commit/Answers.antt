@@ -15,4 +15,4 @@ returns-in_err-check_id-clause-error c =
 pub returns-clause-ok : goal.returns-clause-ok
 returns-clause-ok c =
     commit_added c.args.backend.now c.store_commit.new.backend c.args.entry.now c.in_ok-commit.commit c.in_ok-id.id c.requires.id_length c.requires.kind c.in_ok-commit.ensures.ok c.in_ok-id.ensures.id c.in_ok-check_id.ensures.ok
-    c.in_ok-id.ensures.ok c.in_ok-id.ensures.frame
+    c.in_ok-id.ensures.parents c.in_ok-id.ensures.ok c.in_ok-id.ensures.frame

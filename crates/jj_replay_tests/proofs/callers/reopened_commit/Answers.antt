@@ -1,8 +1,6 @@
-use Rattle.std.proofs.Common.{◌≡◌, ◌∙◌, List, [], ◌∷◌, ◌++◌, sym, subst}
+use Rattle.std.proofs.Common.{◌∙◌, List, sym, subst}
 use Rattle.std.specs.Prelude.{Contains}
 use Rattle.std.proofs.lemmas.List.Elements.{Contains-push}
-use Rattle.jj_content.specs.Blake2b.{blake2b}
-use Rattle.jj_backend.specs.Contents.{commit_content}
 use Rattle.jj_backend.specs.Objects.{commit_object}
 use Rattle.jj_mirror.specs.Entries.{LogEntryValue, entry_of}
 use Rattle.jj_replay_tests.proofs.callers.reopened_commit.Goals as goal
@@ -10,6 +8,5 @@ use Rattle.jj_replay_tests.proofs.callers.reopened_commit.Goals as goal
 pub returns : goal.returns
 returns c =
     let entry = entry_of (commit_object c.args.commit) in
-    let is : c.in_ok-id.id ≡ blake2b (commit_content c.args.commit) = cc (c.in_ok-id.ensures, c.in_ok-digest.ensures.digest) in
-    c.in_ok-read.ensures c.args.commit c.in_ok-digest.ensures.value
-    (subst (λ (l : List LogEntryValue). Contains l entry) (sym (c.log.ensures ∙ c.in_ok-log_commit.ensures)) (Contains-push c.args.store.now.log entry)) is
+    c.in_ok-read.ensures c.args.commit c.in_ok-id.ensures.value
+    (subst (λ (l : List LogEntryValue). Contains l entry) (sym (c.log.ensures ∙ c.in_ok-id.ensures.logged)) (Contains-push c.args.store.now.log entry)) c.in_ok-id.ensures.id

@@ -5,7 +5,7 @@ use Rattle.jj_mirror.specs.Entries.{LogEntryValue, entry_of}
 use Rattle.jj_replay.specs.Replays.{IsStored}
 use Rattle.jj_trees.specs.MemoryObjects.{objects_of}
 use Rattle.jj_sqlite.specs.Rows.{HasDigest}
-use Rattle.jj_sqlite.proofs.WrongObjects.{wrong_object}
+use Rattle.jj_sqlite.proofs.Faults.{has_fault}
 use Rattle.jj_sqlite_tests.proofs.callers.check_objects.Goals as goal
 
 entry_has_digest : (object : Object) → HasDigest (entry_of object)
@@ -16,7 +16,7 @@ entry_has_digest (tree_object entries) = refl
 entry_has_digest (commit_object commit) = refl
 
 stored_has_digest : (objects : Objects) (entry : LogEntryValue) → IsStored objects entry → HasDigest entry
-stored_has_digest objects entry stored = subst HasDigest (sym stored.2) (entry_has_digest stored.0)
+stored_has_digest objects entry stored = subst HasDigest (sym stored.3) (entry_has_digest stored.0)
 
 pub returns-in-Ok-clause-ok : goal.returns-in-Ok-clause-ok
 returns-in-Ok-clause-ok g c = rw (c.into_connection.ensures, c.into_parts-log.ensures) (λ clean entries was_new.
@@ -25,4 +25,4 @@ returns-in-Ok-clause-ok g c = rw (c.into_connection.ensures, c.into_parts-log.en
 
 pub returns-in-Err-clause-error : goal.returns-in-Err-clause-error
 returns-in-Err-clause-error g c = λ before after entries was_new.
-    wrong_object g.S.Store c.args.conn c.in-Err.conn entries c.in-Err.error before was_new (c.in-Err.ensures.error after)
+    has_fault g.S.Store c.args.conn c.in-Err.conn entries c.in-Err.error before was_new (c.in-Err.ensures.error after)

@@ -15,3 +15,8 @@ pub returns-clause-crash : goal.returns-clause-crash
 returns-clause-crash g c = λ entries was_new.
     c.in_ok-files.ensures.crash (entries ++ entry_of (commit_object c.args.commit) ∷ [])
     (of_ok c.write_stored-written.result.0 c.in_ok-id.id _ c.in_ok-id.was c.write_stored-written.ensures.logged entries was_new).now
+
+pub returns-clause-backup : goal.returns-clause-backup
+returns-clause-backup g c = λ entries was_new.
+    c.in_ok-files.ensures.backup (entries ++ entry_of (commit_object c.args.commit) ∷ [])
+    (of_ok c.write_stored-written.result.0 c.in_ok-id.id _ c.in_ok-id.was c.write_stored-written.ensures.logged entries was_new).now

@@ -1,4 +1,4 @@
-use Rattle.std.proofs.Common.{inl, inr, arith}
+use Rattle.std.proofs.Common.{arith}
 use Rattle.sqlite.specs.Held.{state}
 use Rattle.sqlite.specs.State.{HasCleanDisk}
 use Rattle.jj_sqlite.proofs.Crashes.{appended, failed_append, appends_or_not}
@@ -15,16 +15,10 @@ returns-in-Err-clause-unchanged g c = λ entries had.
     c.in-Err.ensures.runs c.insert_entry.ensures.survives had
 
 pub returns-in-Err-clause-error : goal.returns-in-Err-clause-error
-returns-in-Err-clause-error g c = elim c.convert_error.ensures [
-  | inl memory ↦ inl memory
-  | inr other ↦ inr (c.insert_entry.new.conn, c.in-Err.error, c.in-Err.ensures.runs, other)
-]
+returns-in-Err-clause-error g c = (c.insert_entry.new.conn, c.in-Err.error, c.in-Err.ensures.runs, c.convert_error.ensures)
 
 pub returns-in-Err-clause-cause : goal.returns-in-Err-clause-cause
-returns-in-Err-clause-cause g c = elim c.convert_error.ensures [
-  | inl memory ↦ inl memory
-  | inr other ↦ inr (c.in-Err.error, c.in-Err.ensures.runs, other)
-]
+returns-in-Err-clause-cause g c = (c.in-Err.error, c.in-Err.ensures.runs, c.convert_error.ensures)
 
 pub returns-in-Ok-clause-crash : goal.returns-in-Ok-clause-crash
 returns-in-Ok-clause-crash g c = appends_or_not g.S.Store c.args.self.now.conn c.insert_entry.new.conn (record { kind = c.args.kind; id = c.args.id.now; bytes = c.args.bytes.now }) c.insert_entry.ensures.survives
