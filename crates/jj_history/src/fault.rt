@@ -14,6 +14,10 @@ pub(crate) enum Fault {
     Open(OpenError),
     #[error("cannot open the database: {0}")]
     Sqlite(sqlite::Error),
+    #[error("cannot open the database: there is none")]
+    NoDatabase,
+    #[error("cannot close the database: {0}")]
+    Close(OpenError),
     #[error("{0}")]
     Store(BackendError),
     #[error("{0}")]
