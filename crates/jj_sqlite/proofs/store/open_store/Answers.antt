@@ -6,15 +6,15 @@ use Rattle.jj_sqlite.proofs.store.open_store.Goals as goal
 
 pub returns-in-Ok-replay_log-clause-ok : goal.returns-in-Ok-replay_log-clause-ok
 returns-in-Ok-replay_log-clause-ok g c =
-    rw c.new.ensures (λ clean. (c.in-Ok.log.conn, c.in-Ok.ensures.ok (c.replay_log.ensures.clean clean), c.in-Ok-replay_log.ensures.ok clean))
+    rw (c.beside.ensures.backend, c.beside.ensures.log) (λ clean. (c.in-Ok.log.conn, c.in-Ok.ensures.ok (c.replay_log.ensures.clean clean), c.in-Ok-replay_log.ensures.ok clean))
 
 pub returns-in-Ok-replay_log-clause-entries : goal.returns-in-Ok-replay_log-clause-entries
 returns-in-Ok-replay_log-clause-entries g c =
-    rw c.new.ensures (λ clean entries had. c.in-Ok-replay_log.ensures.entries clean entries (c.in-Ok.ensures.entries entries had).now)
+    rw (c.beside.ensures.backend, c.beside.ensures.log) (λ clean entries had. c.in-Ok-replay_log.ensures.entries clean entries (c.in-Ok.ensures.entries entries had).now)
 
 pub returns-in-Ok-replay_log-clause-kept : goal.returns-in-Ok-replay_log-clause-kept
 returns-in-Ok-replay_log-clause-kept g c =
-    rw c.new.ensures (λ entries had. c.in-Ok-replay_log.ensures.kept entries (c.in-Ok.ensures.entries entries had))
+    rw c.beside.ensures.log (λ entries had. c.in-Ok-replay_log.ensures.kept entries (c.in-Ok.ensures.entries entries had))
 
 pub returns-in-Err-replay_log-clause-error : goal.returns-in-Err-replay_log-clause-error
 returns-in-Err-replay_log-clause-error g c =
