@@ -1,7 +1,7 @@
 //! Callers of `store_walks`.
 ghost use Rattle.std.specs.Prelude.{IfOk};
 ghost use Rattle.jj_dag.specs.Outcomes.{IfFails};
-ghost use Rattle.store_walks.specs.Histories.{AreFoundAncestors, AreHeadCommits, IsGroupedHistory, IsHistoryError};
+ghost use Rattle.store_walks.specs.Histories.{AreFoundAncestors, AreHeadCommits, IsGroupedHistory, IsHistoryError, TakesGreatestHeads};
 
 use jj_backend::backend::{Backend, BackendError, BackendResult, CommitId};
 use jj_dag::walk_error::WalkError;
@@ -46,4 +46,17 @@ pub fn grouped_history<B: Backend>(
         ids.now) }
 {
     store_walks::grouped_history(alloc, store, ids)
+}
+
+/// `history_ids`.
+pub fn history_ids<B: Backend>(
+    alloc: Global,
+    store: &B,
+    ids: &[CommitId],
+) -> Result<Vec<CommitId>, WalkError<HistoryError>>
+    ensures { IfOk result (λ order.
+        TakesGreatestHeads (B.objects store.now) order.items) }
+{
+    let order = store_walks::history_ids(alloc, store, ids)?;
+    Ok(order)
 }
