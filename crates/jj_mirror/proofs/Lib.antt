@@ -1,4 +1,3 @@
 pub mod ByteStrings
-pub mod SameRecords
 pub mod WholeDigests
 pub mod FreeDigests

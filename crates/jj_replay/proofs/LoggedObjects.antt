@@ -11,7 +11,7 @@ use Rattle.jj_backend.specs.Objects.{Object, file_object, symlink_object, copy_o
 use Rattle.jj_backend.specs.Records.{CopyHistoryValue, CommitValue, copy_history_eq, commit_eq}
 use Rattle.jj_backend.specs.TreeLaws.{tree_content, tree_eq}
 use Rattle.jj_backend.specs.Trees.{Entries}
-use Rattle.jj_mirror.proofs.SameRecords.{file-Decides, copy-Decides, tree-Decides, commit-Decides}
+use Rattle.jj_trees.proofs.SameRecords.{file-Decides, copy-Decides, tree-Decides, commit-Decides}
 use Rattle.jj_trees.specs.MemoryObjects.{MemoryBackendValue, ObjectEntries, by_id, objects_of}
 use Rattle.jj_mirror.specs.Entries.{LogEntryValue, entry_of}
 use Rattle.jj_mirror.specs.Objects.{IsDigestTaken, IsReplayable}

@@ -7,7 +7,7 @@ use Rattle.jj_backend.specs.Contents.{copy_history_content, commit_content}
 use Rattle.jj_backend.specs.Objects.{Object, file_object, symlink_object, copy_object, tree_object, commit_object, Objects}
 use Rattle.jj_backend.specs.RecordLaws.{copy_history_lawful, commit_lawful}
 use Rattle.jj_backend.specs.TreeLaws.{tree_content, tree_lawful}
-use Rattle.jj_mirror.proofs.SameRecords.{copy-Decides, tree-Decides, commit-Decides}
+use Rattle.jj_trees.proofs.SameRecords.{copy-Decides, tree-Decides, commit-Decides}
 use Rattle.jj_trees.specs.MemoryObjects.{MemoryBackendValue, objects_of}
 use Rattle.jj_mirror.specs.Entries.{LogEntryValue, entry_of, digest_of}
 use Rattle.jj_mirror.specs.Objects.{Stores, IsObject, IsParentless, IsDigestTaken}

@@ -8,7 +8,7 @@ pub mod Conflicting
 pub mod PresentTrees
 pub mod Roots
 mod MemoryObjectLemmas
-mod SameRecords
+pub mod SameRecords
 pub mod StoredTries
 pub mod TrieValues
 pub mod NodeWrites
