@@ -1,10 +1,11 @@
 //! Callers that restate the contracts of `jj_temp_files`; the mutations are edits of their bodies.
 #![tactic(auto)]
 
-ghost use Rattle.std.specs.Prelude.{Some};
+ghost use Rattle.std.specs.Prelude.{IfErr, Some};
 ghost use Rattle.jj_temp_files.specs.Crashes.{LeavesOldOr, ReplacesFile};
 ghost use Rattle.jj_temp_files.specs.Persisting.{PersistsFile};
 ghost use Rattle.jj_temp_files.specs.TempNames.{IsNumberedPath};
+ghost use Rattle.jj_temp_files.specs.WriteErrors.{IsWriteFileError};
 
 use jj_files::file_util::PathError;
 use jj_temp_files::{CrashSafe, FileAccess, NamedTempFile, TempNames};
@@ -38,6 +39,9 @@ pub fn write_file<A: CrashSafe>(
     ensures contents { ¬ (IsNumberedPath dir.now path.now)
         → ReplacesFile (A.contents files.old path.now) (Some bytes.now) result
         (A.contents files.new path.now) }
+    ensures failed { IfErr result (λ fault. IsWriteFileError A.may_create A.may_write A.may_sync
+        A.may_rename A.may_remove dir.now names.old path.now bytes.now
+        files.old fault names.new files.new) }
 {
     jj_temp_files::write_file(alloc, files, dir, names, path, bytes)
 }

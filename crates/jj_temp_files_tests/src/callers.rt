@@ -1,9 +1,9 @@
 //! Object files, which are absent or whole, and files that are one.
-ghost use Rattle.std.specs.Prelude.{◌≡◌, ◌↔◌, IfOk, IsTrue, OnOk, Some, length};
+ghost use Rattle.std.specs.Prelude.{◌≡◌, ◌↔◌, IfErr, IfOk, IsTrue, OnOk, Some, length};
 ghost use Rattle.jj_temp_files.specs.TempNames.{IsNumberedPath};
 ghost use Rattle.jj_temp_files_tests.specs.Disk.{contents_of, LeftAfter, LeftNow};
 ghost use Rattle.jj_temp_files_tests.specs.SameFiles.{ComparesStatuses};
-ghost use Rattle.jj_temp_files_tests.specs.Objects.{IsAbsentOrWhole, StaysAbsentOrWhole};
+ghost use Rattle.jj_temp_files_tests.specs.Objects.{IsAbsentOrWhole, IsAtPathOrTemp, StaysAbsentOrWhole};
 
 use crate::memory_disk::MemoryDisk;
 use jj_files::file_util::PathError;
@@ -12,7 +12,8 @@ use std::alloc::Global;
 use std::io;
 
 /// Writes an object to the path that its content determines. If the object's file was absent or
-/// whole before, it is absent or whole after a crash at any moment; it is there after the call.
+/// whole before, it is absent or whole after a crash at any moment; it is there after the call. An
+/// error contains the path of the object or of a temporary file.
 pub fn store_object<A: CrashSafe>(
     alloc: Global,
     files: &mut A,
@@ -26,6 +27,7 @@ pub fn store_object<A: CrashSafe>(
         → StaysAbsentOrWhole A.moment A.left_since files.old files.new path.now object.now }
     ensures stored { ¬ (IsNumberedPath dir.now path.now)
         → OnOk result (A.contents files.new path.now ≡ Some object.now) }
+    ensures error { IfErr result (IsAtPathOrTemp dir.now path.now) }
 {
     write_file(alloc, files, dir, names, path, object)
 }
@@ -45,6 +47,7 @@ pub fn store_in_memory(
         path.now object.now }
     ensures stored { ¬ (IsNumberedPath dir.now path.now)
         → OnOk result (contents_of disk.new.edits.items path.now ≡ Some object.now) }
+    ensures error { IfErr result (IsAtPathOrTemp dir.now path.now) }
 {
     store_object(alloc, disk, dir, names, path, object)
 }
