@@ -1,0 +1,75 @@
+//! Callers of `jj_log`.
+ghost use Rattle.std.specs.Prelude.{◌≡◌, ◌<◌, ◌⊎◌, false, IfErr, IfOk};
+ghost use Rattle.jj_files.specs.Streams.{streams};
+ghost use Rattle.jj_log.specs.Columns.{IsRow, widest_line};
+ghost use Rattle.jj_log.specs.Edges.{AreEdges, AreTargets};
+ghost use Rattle.jj_log.specs.InputLines.{AreCommitsOf, IsParseFault};
+ghost use Rattle.jj_log.specs.Reports.{Reports, report_text};
+ghost use Rattle.jj_log.specs.Runs.{FailsBy, is_read_failure, is_write_failure};
+ghost use Rattle.jj_log.specs.declared.fault.Fault.{Fault as FaultValue};
+
+use jj_dag::dense_set::DenseSet;
+use jj_files::file_util::{Sink, Source};
+use jj_log::commits::{Commit, NumberedCommit};
+use jj_log::fault::{Fault, LogError};
+use jj_log::layout::{self, MAX_COLUMNS, Row};
+use jj_log::{input, program, targets};
+use jj_walks::graph::GraphEdge;
+use std::alloc::{AllocError, Global};
+
+/// `lay_out`.
+pub fn lay_out(
+    alloc: Global,
+    columns: &mut Vec<usize>,
+    node: usize,
+    edges: Vec<GraphEdge<usize>>,
+) -> Result<Row, LogError>
+    ensures row { IfOk result (λ row. IsRow columns.old.items row columns.new.items) }
+    ensures error { IfErr result (λ error. (error ≡ LogError.Memory)
+        ⊎ ((error ≡ LogError.TooWide node)
+        × (MAX_COLUMNS < widest_line columns.old.items (node, edges.items)))) }
+{
+    layout::lay_out(alloc, columns, node, edges)
+}
+
+/// `edges_of`.
+pub fn edges_of(
+    alloc: Global,
+    commits: &[NumberedCommit],
+    parents: &mut DenseSet,
+    number: usize,
+    targets: &[usize],
+) -> Result<Vec<GraphEdge<usize>>, AllocError>
+    requires { AreTargets commits.now number targets.now }
+    ensures { IfOk result (λ edges. AreEdges commits.now number edges.items) }
+{
+    targets::edges_of(alloc, commits, parents, number, targets)
+}
+
+/// `parse_commits`.
+pub fn parse_commits(alloc: Global, input: &str) -> Result<(Vec<Commit>, Vec<usize>), Fault>
+    ensures commits { IfOk result (λ parsed.
+        AreCommitsOf input.now parsed.0.items parsed.1.items) }
+    ensures error { IfErr result (IsParseFault input.now) }
+{
+    input::parse_commits(alloc, input)
+}
+
+/// `start`.
+pub fn start<R: Source, W: Sink, E: Sink>(
+    alloc: Global,
+    reader: &mut R,
+    writer: &mut W,
+    errors: &mut E,
+) -> u8
+    ensures { result ≡ 1 → (fault : FaultValue) × FailsBy
+        (streams (R.remaining reader.old) (W.contents writer.old))
+        (streams (R.remaining reader.new) (W.contents writer.new)) fault
+        × (is_write_failure fault ≡ false → W.contents writer.new ≡ W.contents writer.old)
+        × (R.has_failed reader.old ≡ false → R.has_failed reader.new ≡ is_read_failure fault)
+        × (W.has_failed writer.old ≡ false → W.has_failed writer.new ≡ is_write_failure fault)
+        × Reports (E.contents errors.old) (E.contents errors.new) (E.has_failed errors.new)
+        (report_text fault) }
+{
+    program::start(alloc, reader, writer, errors)
+}
