@@ -1,5 +1,5 @@
 -- Errors of writing the object of an entry, by kind.
-use Rattle.std.proofs.Common.{◌≡◌, ◌≢◌, ◌∙◌, ◌⊎◌, inl, inr, ℕ, List, [], Some, refl, sym, ap, subst}
+use Rattle.std.proofs.Common.{◌≡◌, ◌≢◌, ◌∙◌, ◌⊎◌, inl, inr, ℕ, List, [], refl, sym, ap, subst}
 use Rattle.std.specs.Str.{IsUtf8}
 use Rattle.jj_backend.specs.Contents.{IsCopyHistory, copy_history_content, IsCommit, commit_content}
 use Rattle.jj_backend.specs.Errors.{IsOtherOf}

@@ -1,17 +1,16 @@
 -- Entries that were replayed once are replayed again, but for memory.
-use Rattle.std.proofs.Common.{◌≡◌, ◌≢◌, ◌∙◌, ◌⊎◌, inl, inr, ℕ, List, [], ◌∷◌, ◌++◌, Option, Some, refl, sym, ap, subst, take, drop, slice_get, zero, suc, arith}
-use Rattle.std.specs.Prelude.{Contains, All}
+use Rattle.std.proofs.Common.{◌≡◌, ◌∙◌, inl, inr, ℕ, List, [], ◌∷◌, ◌++◌, Option, Some, refl, sym, ap, subst, take, drop, slice_get, zero, suc, arith}
+use Rattle.std.specs.Prelude.{Contains}
 use Rattle.std.proofs.lemmas.List.{take-append-drop}
 use Rattle.std.proofs.lemmas.List.Elements.{All-contains, Contains-append_left}
-use Rattle.jj_backend.specs.Contents.{copy_history_content, commit_content}
 use Rattle.jj_backend.specs.Objects.{Object, file_object, symlink_object, copy_object, tree_object, commit_object, Objects}
 use Rattle.jj_backend.specs.RecordLaws.{copy_history_lawful, commit_lawful}
-use Rattle.jj_backend.specs.TreeLaws.{tree_content, tree_lawful}
+use Rattle.jj_backend.specs.TreeLaws.{tree_lawful}
 use Rattle.jj_trees.proofs.SameRecords.{copy-Decides, tree-Decides, commit-Decides}
 use Rattle.jj_trees.specs.MemoryObjects.{MemoryBackendValue, objects_of}
 use Rattle.jj_mirror.specs.Entries.{LogEntryValue, entry_of, digest_of}
 use Rattle.jj_mirror.specs.Objects.{Stores, IsObject, IsParentless, IsDigestTaken}
-use Rattle.jj_replay.specs.Replays.{IsStored, HasBytesOf, HasEntry, IsReplay, IsReplayError, IsEntryError}
+use Rattle.jj_replay.specs.Replays.{IsStored, HasBytesOf, IsReplay, IsReplayError, IsEntryError}
 use Rattle.jj_replay.specs.declared.error.ReplayError.{ReplayError}
 use Rattle.jj_replay.specs.declared.error.ReplayError.TheVariants.{Memory, Malformed, WrongObject, Backend}
 

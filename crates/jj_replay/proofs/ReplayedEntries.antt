@@ -1,13 +1,12 @@
 -- Replaying one more entry.
-use Rattle.std.proofs.Common.{◌≡◌, ◌∙◌, ◌⊎◌, inl, inr, ℕ, ◌+◌, ◌<◌, List, [], ◌∷◌, ◌++◌, length, take, get_or, slice_get, Some, sym, ap, subst, refl}
+use Rattle.std.proofs.Common.{◌≡◌, ◌∙◌, inl, inr, ℕ, ◌+◌, ◌<◌, List, [], ◌∷◌, ◌++◌, length, take, get_or, slice_get, Some, sym, ap, subst, refl}
 use Rattle.std.specs.Prelude.{Contains}
 use Rattle.std.proofs.lemmas.List.{take_more}
 use Rattle.std.proofs.lemmas.List.Elements.{All-nil, All-push, All-weaker, Contains-append_left, Contains-push}
 use Rattle.jj_backend.specs.Objects.{Object, file_object, symlink_object, copy_object, tree_object, commit_object}
 use Rattle.jj_trees.specs.MemoryObjects.{MemoryBackendValue, objects_of, digest_length, new_backend}
 use Rattle.jj_mirror.specs.Entries.{LogEntryValue, entry_of}
-use Rattle.jj_mirror.specs.Objects.{Stores}
-use Rattle.jj_replay.specs.Replays.{IsStored, HasEntry, IsReplay, IsReplayError, IsEntryError}
+use Rattle.jj_replay.specs.Replays.{IsStored, IsReplay, IsReplayError, IsEntryError}
 use Rattle.jj_replay.specs.Writes.{Adds, AddsEntry}
 use Rattle.jj_replay.specs.declared.error.ReplayError.{ReplayError}
 use Rattle.jj_replay.specs.declared.error.ReplayError.TheVariants.{Memory, Malformed, WrongObject, Backend}

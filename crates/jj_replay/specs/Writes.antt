@@ -2,6 +2,8 @@
 -- steps.
 use Rattle.std.specs.Prelude.{◌≡◌, ◌≢◌, ⊤, ℕ, List}
 use Rattle.jj_backend.specs.Objects.{Object, file_object, symlink_object, copy_object, tree_object, commit_object, AddsFile, AddsSymlink, AddsCopy, AddsTree, AddsCommit}
+use Rattle.jj_decode.specs.declared.error.DecodeError.{DecodeError}
+use Rattle.jj_decode.specs.declared.error.DecodeError.TheVariants as decode
 use Rattle.jj_trees.specs.MemoryObjects.{MemoryBackendValue, objects_of}
 use Rattle.jj_mirror.specs.Entries.{LogEntryValue, entry_of}
 use Rattle.jj_mirror.specs.Objects.{IsObject, IsParentless}
@@ -33,6 +35,13 @@ NamesEntry entry Memory = ⊤
 NamesEntry entry (Malformed kind id reason offset) = Names entry kind id.items
 NamesEntry entry (WrongObject kind id) = ⊥
 NamesEntry entry (Backend error) = ⊥
+
+-- the reason and the offset of a malformed entry are those of an error of decoding
+abbrev pub HasCause : (DecodeError → Type 0) → ReplayError → Type 0
+HasCause errors Memory = ⊤
+HasCause errors (Malformed kind id reason offset) = errors (decode.Malformed reason offset)
+HasCause errors (WrongObject kind id) = ⊤
+HasCause errors (Backend error) = ⊤
 
 -- no value has the bytes of the entry as its content, or memory ran out
 abbrev pub IsDecodeError : {X : Type 0} → (X → Type 0) → (X → List ℕ) → LogEntryValue → ReplayError

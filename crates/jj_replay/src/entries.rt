@@ -5,8 +5,10 @@ ghost use Rattle.jj_backend.specs.Contents.{commit_content};
 ghost use Rattle.jj_backend.specs.Objects.{AddsCommit, commit_object};
 ghost use Rattle.jj_trees.specs.MemoryObjects.{digest_length, object_id, objects_of};
 ghost use Rattle.jj_trees.specs.MemoryObjects.{MayFailToWrite};
-ghost use Rattle.jj_replay.specs.Replays.{IsEntryError};
-ghost use Rattle.jj_replay.specs.Writes.{AddsEntry, IsDecodeError, NamesEntry};
+ghost use Rattle.jj_decode.specs.Errors.{WholeErrors};
+ghost use Rattle.jj_decode.specs.declared.error.DecodeError.TheVariants.{Malformed};
+ghost use Rattle.jj_replay.specs.Replays.{IsEntryError, KindErrors, TargetErrors};
+ghost use Rattle.jj_replay.specs.Writes.{AddsEntry, HasCause, IsDecodeError, NamesEntry};
 ghost use Rattle.jj_replay.specs.Writes.{IsWrongId, NamesWrongObject};
 
 use crate::error::ReplayError;
@@ -22,7 +24,8 @@ use std::alloc::Global;
 use std::str::from_utf8;
 
 fn malformed(alloc: Global, entry: &LogEntry, reason: Malformation, offset: usize) -> ReplayError
-    ensures { NamesEntry entry.now result }
+    ensures names { NamesEntry entry.now result }
+    ensures cause { HasCause (λ e. e ≡ Malformed reason offset) result }
 {
     match entry.id.clone() {
         Ok(id) => ReplayError::Malformed {
@@ -39,6 +42,8 @@ fn malformed(alloc: Global, entry: &LogEntry, reason: Malformation, offset: usiz
 fn decode_entry<T: ReadContent>(alloc: Global, entry: &LogEntry) -> Result<T, ReplayError>
     ensures ok { IfOk result (λ x. T.is_value x × (entry.now.bytes ≡ T.content x)) }
     ensures error { IfErr result (IsDecodeError T.is_value T.content entry.now) }
+    ensures cause { IfErr result (HasCause
+        (WholeErrors T.is_value T.content T.errors entry.now.bytes)) }
 {
     match decode_content(alloc, &entry.bytes) {
         Ok(value) => Ok(value),
@@ -89,6 +94,9 @@ fn write_file(
     requires id_length { backend.old.id_length ≡ digest_length }
     ensures ok { OnOk result (AddsEntry backend.old backend.new entry.now) }
     ensures error { IfErr result (IsEntryError backend.old entry.now) }
+    ensures cause { IfErr result (HasCause (KindErrors ⟦<CopyHistory as ReadContent>⟧.errors
+        ⟦<Tree as ReadContent>⟧.errors ⟦<Commit as ReadContent>⟧.errors
+        entry.now.kind entry.now.bytes)) }
 {
     let id = backend.write_file(alloc, RepoPath::root(), &entry.bytes)?;
     check_id(entry, &id)?;
@@ -99,6 +107,7 @@ fn write_file(
 fn symlink_target(alloc: Global, entry: &LogEntry) -> Result<&str, ReplayError>
     ensures ok { IfOk result (λ target. IsUtf8 target.now × (entry.now.bytes ≡ target.now)) }
     ensures error { IfErr result (IsDecodeError IsUtf8 (λ target. target) entry.now) }
+    ensures cause { IfErr result (HasCause (TargetErrors entry.now.bytes)) }
 {
     match from_utf8(&entry.bytes) {
         Ok(target) => Ok(target),
@@ -116,6 +125,9 @@ fn write_symlink(
     requires id_length { backend.old.id_length ≡ digest_length }
     ensures ok { OnOk result (AddsEntry backend.old backend.new entry.now) }
     ensures error { IfErr result (IsEntryError backend.old entry.now) }
+    ensures cause { IfErr result (HasCause (KindErrors ⟦<CopyHistory as ReadContent>⟧.errors
+        ⟦<Tree as ReadContent>⟧.errors ⟦<Commit as ReadContent>⟧.errors
+        entry.now.kind entry.now.bytes)) }
 {
     let target = symlink_target(alloc, entry)?;
     let id = backend.write_symlink(alloc, RepoPath::root(), target)?;
@@ -133,6 +145,9 @@ fn write_copy(
     requires id_length { backend.old.id_length ≡ digest_length }
     ensures ok { OnOk result (AddsEntry backend.old backend.new entry.now) }
     ensures error { IfErr result (IsEntryError backend.old entry.now) }
+    ensures cause { IfErr result (HasCause (KindErrors ⟦<CopyHistory as ReadContent>⟧.errors
+        ⟦<Tree as ReadContent>⟧.errors ⟦<Commit as ReadContent>⟧.errors
+        entry.now.kind entry.now.bytes)) }
 {
     let history: CopyHistory = decode_entry(alloc, entry)?;
     let id = backend.write_copy(alloc, &history)?;
@@ -150,6 +165,9 @@ fn write_tree(
     requires id_length { backend.old.id_length ≡ digest_length }
     ensures ok { OnOk result (AddsEntry backend.old backend.new entry.now) }
     ensures error { IfErr result (IsEntryError backend.old entry.now) }
+    ensures cause { IfErr result (HasCause (KindErrors ⟦<CopyHistory as ReadContent>⟧.errors
+        ⟦<Tree as ReadContent>⟧.errors ⟦<Commit as ReadContent>⟧.errors
+        entry.now.kind entry.now.bytes)) }
 {
     let tree: Tree = decode_entry(alloc, entry)?;
     let id = backend.write_tree(alloc, RepoPath::root(), &tree)?;
@@ -186,6 +204,9 @@ fn write_commit(
     requires id_length { backend.old.id_length ≡ digest_length }
     ensures ok { OnOk result (AddsEntry backend.old backend.new entry.now) }
     ensures error { IfErr result (IsEntryError backend.old entry.now) }
+    ensures cause { IfErr result (HasCause (KindErrors ⟦<CopyHistory as ReadContent>⟧.errors
+        ⟦<Tree as ReadContent>⟧.errors ⟦<Commit as ReadContent>⟧.errors
+        entry.now.kind entry.now.bytes)) }
 {
     let commit: Commit = decode_entry(alloc, entry)?;
     let id = store_commit(alloc, backend, commit)?;
@@ -202,6 +223,9 @@ pub(super) fn write_entry(
     requires { backend.old.id_length ≡ digest_length }
     ensures ok { OnOk result (AddsEntry backend.old backend.new entry.now) }
     ensures error { IfErr result (IsEntryError backend.old entry.now) }
+    ensures cause { IfErr result (HasCause (KindErrors ⟦<CopyHistory as ReadContent>⟧.errors
+        ⟦<Tree as ReadContent>⟧.errors ⟦<Commit as ReadContent>⟧.errors
+        entry.now.kind entry.now.bytes)) }
 {
     match entry.kind {
         ObjectKind::File => write_file(alloc, backend, entry),

@@ -1,10 +1,12 @@
 //! Replaying a log of written objects into an in-memory backend.
 ghost use Rattle.std.specs.Prelude.{◌≡◌, IfOk, IfErr};
 ghost use Rattle.jj_trees.specs.MemoryObjects.{MemoryBackendValue};
-ghost use Rattle.jj_replay.specs.Replays.{IsReplay, IsReplayError};
+ghost use Rattle.jj_replay.specs.Replays.{IsReplay, IsReplayCause, IsReplayError};
 
 use crate::entries::write_entry;
 use crate::error::ReplayError;
+use jj_backend::backend::{Commit, CopyHistory, Tree};
+use jj_decode::read_content::ReadContent;
 use jj_mirror::object_log::LogEntry;
 use jj_trees::memory_backend::MemoryBackend;
 use std::alloc::Global;
@@ -18,6 +20,9 @@ pub fn replay(alloc: Global, entries: &[LogEntry]) -> Result<MemoryBackend, Repl
     // initial objects of a new backend.
     ensures ok { IfOk result (IsReplay entries.now) }
     ensures error { IfErr result (IsReplayError entries.now) }
+    // The reason and the offset of a malformed entry are those of decoding its bytes as its kind.
+    ensures cause { IfErr result (IsReplayCause ⟦<CopyHistory as ReadContent>⟧.errors
+        ⟦<Tree as ReadContent>⟧.errors ⟦<Commit as ReadContent>⟧.errors entries.now) }
     // If a backend is the replay of these entries, replaying them fails only for memory.
     ensures again { (backend : MemoryBackendValue) → IsReplay entries.now backend
         → IfErr result (λ e. e ≡ ReplayError.Memory) }
