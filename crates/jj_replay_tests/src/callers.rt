@@ -1,5 +1,6 @@
 //! Proved callers: a commit that is read back after a reopen, and logs that are replayed.
-ghost use Rattle.std.specs.Prelude.{◌≡◌, ◌++◌, [], ◌∷◌, Contains, IfOk, IfErr, OnOk, OnErr};
+ghost use Rattle.std.specs.Prelude.{◌≡◌, ◌++◌, ◌<◌, [], ◌∷◌, Contains, length};
+ghost use Rattle.std.specs.Prelude.{IfOk, IfErr, OnOk, OnErr};
 ghost use Rattle.jj_content.specs.Blake2b.{blake2b};
 ghost use Rattle.jj_backend.specs.Contents.{IsCommit, commit_content};
 ghost use Rattle.jj_backend.specs.Objects.{commit_object};
@@ -7,10 +8,12 @@ ghost use Rattle.jj_backend.specs.Records.{CommitValue};
 ghost use Rattle.jj_trees.specs.MemoryObjects.{MemoryBackendValue};
 ghost use Rattle.jj_mirror.specs.Entries.{entry_of};
 ghost use Rattle.jj_replay.specs.Replays.{IsReplay};
+ghost use Rattle.jj_replay_tests.specs.Truncations.{IsTruncatedAtStart};
 
 use jj_backend::backend::{Backend, BackendResult, Commit, CommitId, FileId, NoSigner};
 use jj_mirror::memory_log::MemoryLog;
 use jj_mirror::mirrored::Mirrored;
+use jj_mirror::object_log::{LogEntry, ObjectKind};
 use jj_paths::repo_path::RepoPath;
 use jj_replay::error::ReplayError;
 use jj_replay::replay::replay;
@@ -132,4 +135,22 @@ pub fn replayed_files(alloc: Global, files: &[Vec<u8>]) -> Result<MemoryBackend,
     let mut store = new_store(alloc)?;
     let _ = log_files(alloc, &mut store, files);
     replay(alloc, store.log().entries())
+}
+
+/// Replays a log of one tree of fewer than eight bytes. If the error is that it is malformed, it is
+/// truncated at the number of its entries.
+pub fn replayed_short_tree(
+    alloc: Global,
+    id: Vec<u8>,
+    bytes: Vec<u8>,
+) -> Result<MemoryBackend, ReplayError>
+    requires { length bytes.items < 8 }
+    ensures { IfErr result IsTruncatedAtStart }
+{
+    let entry = LogEntry {
+        kind: ObjectKind::Tree,
+        id,
+        bytes,
+    };
+    replay(alloc, &[entry])
 }
