@@ -1,5 +1,5 @@
 -- The replay of a log and one more object that a write logged.
-use Rattle.std.proofs.Common.{◌≡◌, ◌≢◌, ◌∙◌, ◌⊎◌, inl, inr, ℕ, Bool, true, false, cond, List, [], ◌∷◌, ◌++◌, Option, Some, None, refl, sym, ap, subst, true≢false}
+use Rattle.std.proofs.Common.{◌≡◌, ◌≢◌, ◌∙◌, ◌⊎◌, inl, inr, ℕ, Bool, true, false, cond, List, [], ◌∷◌, ◌++◌, Option, Some, None, refl, sym, ap, true≢false}
 use Rattle.std.specs.Bool.{Decides}
 use Rattle.std.specs.Map.{lookup}
 use Rattle.std.specs.Str.{bytes_eq}
@@ -7,10 +7,9 @@ use Rattle.std.specs.Cmp.Lexicographic.{same_text, bytes_decides}
 use Rattle.jj_content.specs.Blake2b.{blake2b}
 use Rattle.jj_content.specs.Content.{string_content}
 use Rattle.jj_backend.specs.Contents.{bytes_content, copy_history_content, commit_content}
-use Rattle.jj_backend.specs.Objects.{Object, file_object, symlink_object, copy_object, tree_object, commit_object, Objects, put}
-use Rattle.jj_backend.specs.Records.{CopyHistoryValue, CommitValue, copy_history_eq, commit_eq}
+use Rattle.jj_backend.specs.Objects.{Object, file_object, symlink_object, copy_object, tree_object, commit_object, put}
+use Rattle.jj_backend.specs.Records.{copy_history_eq, commit_eq}
 use Rattle.jj_backend.specs.TreeLaws.{tree_content, tree_eq}
-use Rattle.jj_backend.specs.Trees.{Entries}
 use Rattle.jj_trees.proofs.SameRecords.{file-Decides, copy-Decides, tree-Decides, commit-Decides}
 use Rattle.jj_trees.specs.MemoryObjects.{MemoryBackendValue, ObjectEntries, by_id, objects_of}
 use Rattle.jj_mirror.specs.Entries.{LogEntryValue, entry_of}

@@ -1,4 +1,4 @@
-use Rattle.std.proofs.Common.{◌≡◌, List, inl, inr, refl, sym, subst}
+use Rattle.std.proofs.Common.{List, inl, inr, refl, sym, subst}
 use Rattle.std.proofs.lemmas.Result.{err_from_is_err_and}
 use Rattle.jj_backend.specs.Objects.{file_object, AddsFile}
 use Rattle.jj_trees.specs.MemoryObjects.{MemoryBackendValue, objects_of}

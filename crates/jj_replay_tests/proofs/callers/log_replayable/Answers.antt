@@ -1,4 +1,4 @@
-use Rattle.std.proofs.Common.{◌≡◌, List, inl, inr, refl, sym, subst}
+use Rattle.std.proofs.Common.{List, inl, inr, refl, sym, subst}
 use Rattle.jj_backend.specs.Objects.{commit_object}
 use Rattle.jj_trees.specs.MemoryObjects.{MemoryBackendValue}
 use Rattle.jj_mirror.specs.Entries.{LogEntryValue}

@@ -1,6 +1,3 @@
-use Rattle.std.proofs.Common.{List, subst, sym}
-use Rattle.jj_mirror.specs.Entries.{LogEntryValue}
-use Rattle.jj_replay.specs.Replays.{IsReplay}
 use Rattle.jj_replay_tests.proofs.callers.replayed_commit.Goals as goal
 
 pub returns : goal.returns
