@@ -5,7 +5,7 @@ ghost use Rattle.std.specs.List.Sorted.{IsPermutation};
 ghost use Rattle.jiff.specs.Words.{plain_zoned};
 ghost use Rattle.jj_backend.specs.Contents.{commit_content};
 ghost use Rattle.jj_backend.specs.MergedTreeValues.{file_id_of, parts};
-ghost use Rattle.jj_backend.specs.Times.{nanoseconds_in_millisecond};
+ghost use Rattle.jj_dates.specs.Times.{nanoseconds_in_millisecond};
 ghost use Rattle.jj_content.specs.Content.{Absorbs};
 
 use jiff::Zoned;
@@ -14,6 +14,7 @@ use jj_backend::backend::{
     TreeValue,
 };
 use jj_content::content_hash::{ContentHash, DigestUpdate};
+use jj_dates::timestamp::TimestampExt;
 use jj_merges::merge::Merge;
 use jj_paths::repo_path::RepoPathComponentBuf;
 use std::alloc::{AllocError, Global};
@@ -39,7 +40,7 @@ pub fn to_file_merge<V: MergedTreeValueExt>(
     values.to_file_merge(alloc)
 }
 
-/// `Timestamp::from_datetime`.
+/// `TimestampExt::from_datetime`.
 pub fn from_datetime(datetime: &Zoned<'_>) -> Timestamp
     ensures { result.timestamp.0 ≡ int_div_euclid
         (plain_zoned datetime.now).timestamp.nanosecond nanoseconds_in_millisecond }

@@ -1,4 +1,3 @@
-pub mod Times
 pub mod Records
 pub mod Contents
 pub mod RecordLaws
@@ -9,5 +8,4 @@ pub mod Trees
 pub mod TreeLaws
 pub mod Errors
 pub mod Objects
-pub mod Json
 pub mod CopyHistoryOrder

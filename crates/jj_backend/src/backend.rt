@@ -6,7 +6,6 @@ mod descriptions;
 mod errors;
 mod file_parts;
 mod interface;
-mod json;
 mod merged_parts;
 mod merged_tree_value;
 mod orders;

@@ -1,13 +1,9 @@
-//! Proved callers of commits, copy histories and timestamps.
-ghost use Rattle.std.specs.Prelude.{◌≡◌, ◌↔◌, false, IfOk, IsTrue};
-ghost use Rattle.jiff.specs.Words.{IsTimestampNanos};
+//! Proved callers of commits and copy histories.
+ghost use Rattle.std.specs.Prelude.{◌≡◌, IfOk, IsTrue};
 ghost use Rattle.jj_paths.specs.Paths.{path_cmp};
 ghost use Rattle.jj_backend.specs.Records.{commit_eq};
-ghost use Rattle.jj_backend.specs.Times.{nanoseconds};
 
-use jj_backend::backend::{
-    ChangeId, Commit, CopyHistory, MillisSinceEpoch, Timestamp, TreeId, make_root_commit,
-};
+use jj_backend::backend::{ChangeId, Commit, CopyHistory, TreeId, make_root_commit};
 use std::alloc::{AllocError, Global};
 use std::cmp::Ordering;
 
@@ -37,15 +33,4 @@ pub fn change_of_root(alloc: Global, change: ChangeId, tree: TreeId) -> Result<C
     ensures { IfOk result (λ id. id ≡ change) }
 {
     make_root_commit(alloc, change, tree).change_id.clone()
-}
-
-/// Returns whether a timestamp in UTC is outside of the range of dates.
-pub fn is_out_of_range(millis: i64) -> bool
-    ensures { (result ≡ false) ↔ IsTimestampNanos (nanoseconds millis) }
-{
-    let time = Timestamp {
-        timestamp: MillisSinceEpoch(millis),
-        tz_offset: 0,
-    };
-    time.to_datetime().is_err()
 }

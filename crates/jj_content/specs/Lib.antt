@@ -5,6 +5,5 @@ pub mod Content
 pub mod PrefixFreeProofs
 pub mod SortingProofs
 pub mod HashTableProofs
-pub mod Json
 pub mod Blake2b
 pub mod Blake2bState

@@ -17,7 +17,6 @@ ghost use Rattle.jj_content.specs.PrefixFreeProofs.{unit_lawful, bool_lawful, u8
 ghost use Rattle.jj_content.specs.HashTableProofs.{hash_map_lawful, hash_set_lawful};
 
 use crate::blake2b::Blake2b512;
-pub use crate::to_json::{ToJson, ToJsonError};
 use itertools::Itertools;
 use std::alloc::{AllocError, Global};
 use std::collections::{BTreeMap, HashMap, HashSet};

@@ -8,6 +8,7 @@ pub mod laws;
 
 pub use jj_backend::backend;
 pub use jj_content::{blake2b, hex_util, symbol_util};
+pub use jj_dates::timestamp;
 pub use jj_diff::diff;
 pub use jj_files::fs_text;
 pub use jj_globs::glob;

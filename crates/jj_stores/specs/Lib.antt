@@ -7,7 +7,6 @@ pub mod RefTargetLaws
 pub mod Views
 pub mod ViewLaws
 pub mod Operations
-pub mod Json
 pub mod OperationLaws
 pub mod ViewJoins
 pub mod JoinRows

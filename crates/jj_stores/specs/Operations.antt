@@ -1,5 +1,5 @@
 -- The content bytes of operations, field by field, and the root operation.
--- Cited by contracts of public items: HasDates, IsMetadata, IsOperation, IsRange, IsRootOperation,
+-- Cited by contracts of public items: IsMetadata, IsOperation, IsRange, IsRootOperation,
 -- metadata_content, operation_content, range_content.
 use Rattle.std.specs.Prelude.{◌≡◌, ℕ, pos, false, List, [], ◌++◌, None, IsSomeAnd, string_bytes, string_cmp}
 use Rattle.std.specs.BTreeMap.{BTreeMap, IsOrdered}
@@ -11,7 +11,6 @@ use Rattle.std.specs.declared.string.String.{String}
 use Rattle.std.specs.declared.vec.Vec.{Vec}
 use Rattle.jj_content.specs.Content.{AreValues, IsOptionOf, bool_content, list_content, string_content, option_content, entry_content}
 use Rattle.jj_backend.specs.Contents.{AreBytes, bytes_content, IsText, IsTimestamp, timestamp_content}
-use Rattle.jj_backend.specs.Times.{IsDate}
 use Rattle.jj_backend.specs.declared.backend.timestamp.Timestamp.{Timestamp}
 use Rattle.jj_stores.specs.declared.op_store.operation.Operation.{Operation}
 use Rattle.jj_stores.specs.declared.op_store.operation.OperationMetadata.{OperationMetadata}
@@ -24,10 +23,6 @@ IsRange range = IsTimestamp range.start × IsTimestamp range.end
 
 abbrev pub range_content : TimestampRange → List ℕ
 range_content range = timestamp_content range.start ++ timestamp_content range.end
-
--- the start and the end are within the range of dates
-abbrev pub HasDates : TimestampRange → Type 0
-HasDates range = IsDate range.start × IsDate range.end
 
 -- ---- metadata: time and description; host and user; snapshot flag, workspace and attributes
 

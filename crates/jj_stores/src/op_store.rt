@@ -3,7 +3,6 @@ mod content;
 mod copies;
 mod errors;
 mod interface;
-mod json;
 mod operation;
 mod ref_target;
 mod remaining_refs;

@@ -1,5 +1,6 @@
 //! Requests on merges of strings. A group lists the terms; adds and removes alternate.
-use jj_content::content_hash::{ToJson, ToJsonError, blake2b_hash};
+use jj_content::content_hash::blake2b_hash;
+use jj_json::to_json::{ToJson, ToJsonError};
 use jj_merges::merge::{Diff, Merge, MergeBuilder, SameChange, three_way, trivial_merge};
 use rows::request::{Fields, Request};
 use rows::row_error::{RowError, agree, needs};

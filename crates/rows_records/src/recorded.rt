@@ -1,6 +1,7 @@
 //! Content bytes in hexadecimal and JSON values, as values of a result.
-use jj_content::content_hash::{ContentHash, DigestUpdate, ToJson, ToJsonError};
+use jj_content::content_hash::{ContentHash, DigestUpdate};
 use jj_content::hex_util::encode_hex;
+use jj_json::to_json::{ToJson, ToJsonError};
 use rows::values::Values;
 use serde::Serialize;
 use std::alloc::{AllocError, Global};

@@ -3,6 +3,7 @@ use crate::arguments::time;
 use crate::recorded::put_record;
 use jiff::tz::{Offset, TimeZone};
 use jj_backend::backend::Timestamp;
+use jj_dates::timestamp::TimestampExt;
 use rows::request::Request;
 use rows::row_error::{RowError, agree};
 use rows::values::Values;

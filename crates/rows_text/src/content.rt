@@ -1,7 +1,8 @@
 //! Requests on digests, content and JSON.
 use jj_content::blake2b::Blake2b512;
-use jj_content::content_hash::{ContentHash, DigestUpdate, ToJson, ToJsonError, blake2b_hash};
+use jj_content::content_hash::{ContentHash, DigestUpdate, blake2b_hash};
 use jj_content::hex_util::{decode_hex, encode_hex};
+use jj_json::to_json::{ToJson, ToJsonError};
 use rows::request::{Fields, Request};
 use rows::row_error::{RowError, agree};
 use rows::values::Values;

@@ -1,23 +1,19 @@
 //! One caller for each call on ids, names and symbols.
-ghost use Rattle.std.specs.Prelude.{◌≡◌, ℕ, List, IfOk, IfErr, IsTrue, codes, Some, refl, ⊤};
+ghost use Rattle.std.specs.Prelude.{◌≡◌, ℕ, List, IfOk, IfErr, IsTrue, codes, Some, refl};
 ghost use Rattle.std.specs.String.{string_bytes};
 ghost use Rattle.std.specs.Str.{bytes_eq};
 ghost use Rattle.std.specs.Option.{option_copied};
 ghost use Rattle.std.specs.BTreeMap.{get_by};
 ghost use Rattle.std.specs.Ordering.{nat_cmp, ordering_then};
 ghost use Rattle.std.specs.Cmp.Lexicographic.{slice_cmp};
-ghost use Rattle.serde_json.specs.Data.{string};
 ghost use Rattle.jj_content.specs.Hex.{hex, reverse_hex, hex_digits, reverse_hex_digits, DecodesTo, IsDecoding};
-ghost use Rattle.jj_content.specs.Json.{IsJsonResult};
 ghost use Rattle.jj_ids.specs.Names.{name_bytes};
 
-use jj_content::content_hash::{ToJson, ToJsonError};
 use jj_ids::object_id::{ChangeId, CommitId, HexPrefix, ObjectId};
 use jj_ids::ref_name::{
     AtRemote, GitRefNameBuf, RefName, RefNameBuf, RemoteRefSymbol, RemoteRefSymbolBuf,
     WorkspaceName,
 };
-use serde_json::Value;
 use std::alloc::{AllocError, Global};
 use std::cmp::Ordering;
 use std::collections::BTreeMap;
@@ -78,18 +74,6 @@ pub fn change_text(alloc: Global, id: &ChangeId) -> Result<String, AllocError>
     ensures { IfOk result (λ text. string_bytes text ≡ reverse_hex id.now) }
 {
     format!(in alloc; "{id}")
-}
-
-pub fn commit_json(alloc: Global, id: &CommitId) -> Result<Value, ToJsonError>
-    ensures { IsJsonResult ⊤ (λ d. d ≡ string (hex id.now)) result }
-{
-    id.to_json(alloc)
-}
-
-pub fn change_json(alloc: Global, id: &ChangeId) -> Result<Value, ToJsonError>
-    ensures { IsJsonResult ⊤ (λ d. d ≡ string (reverse_hex id.now)) result }
-{
-    id.to_json(alloc)
 }
 
 pub fn commit_type(alloc: Global, id: &CommitId) -> Result<String, AllocError>

@@ -1,16 +1,12 @@
-//! Content hashing and JSON serialization of paths and components, as strings.
-ghost use Rattle.std.specs.Prelude.{◌≡◌, OnOk, OnErr, ⊤};
-ghost use Rattle.serde_json.specs.Data.{string};
+//! Content hashing of paths and components, as strings.
+ghost use Rattle.std.specs.Prelude.{OnOk, OnErr};
 ghost use Rattle.jj_content.specs.Content.{Absorbs, AbsorbsPrefix, IsLawful, string_content};
-ghost use Rattle.jj_content.specs.Json.{IsJsonResult};
 ghost use Rattle.jj_content.specs.PrefixFreeProofs.{on_lawful};
 ghost use Rattle.jj_paths.specs.Contents.{IsShortName, name_lawful, IsShortPath, path_content, path_lawful};
 ghost use Rattle.jj_paths.specs.Names.{name_of, path_of};
-ghost use Rattle.jj_paths.specs.Paths.{path_string};
 
 use super::{RepoPath, RepoPathBuf, RepoPathComponent, RepoPathComponentBuf};
-use jj_content::content_hash::{ContentHash, DigestUpdate, ToJson, ToJsonError};
-use serde_json::Value;
+use jj_content::content_hash::{ContentHash, DigestUpdate};
 use std::alloc::{AllocError, Global};
 
 impl ContentHash for RepoPathComponentBuf {
@@ -60,51 +56,5 @@ impl<'a> ContentHash for RepoPath<'a> {
     fn hash<D: DigestUpdate>(&self, alloc: Global, state: &mut D) -> Result<(), AllocError> {
         let text = self.as_internal_file_string();
         ContentHash::hash(&text, alloc, state)
-    }
-}
-
-fn string_to_json(alloc: Global, text: &str) -> Result<Value, ToJsonError>
-    ensures { IsJsonResult ⊤ (λ d. d ≡ string text.now) result }
-{
-    Ok(Value::String(String::from_str(alloc, text)?))
-}
-
-impl ToJson for RepoPathComponentBuf {
-    ghost is_in_range = { λ _. ⊤ };
-
-    ghost is_json = { λ name d. d ≡ string name };
-
-    fn to_json(&self, alloc: Global) -> Result<Value, ToJsonError> {
-        string_to_json(alloc, self.value.as_str())
-    }
-}
-
-impl<'a> ToJson for RepoPathComponent<'a> {
-    ghost is_in_range = { λ _. ⊤ };
-
-    ghost is_json = { λ name d. d ≡ string (name_of name) };
-
-    fn to_json(&self, alloc: Global) -> Result<Value, ToJsonError> {
-        string_to_json(alloc, self.value)
-    }
-}
-
-impl ToJson for RepoPathBuf {
-    ghost is_in_range = { λ _. ⊤ };
-
-    ghost is_json = { λ path d. d ≡ string (path_string path) };
-
-    fn to_json(&self, alloc: Global) -> Result<Value, ToJsonError> {
-        self.as_path().to_json(alloc)
-    }
-}
-
-impl<'a> ToJson for RepoPath<'a> {
-    ghost is_in_range = { λ _. ⊤ };
-
-    ghost is_json = { λ path d. d ≡ string (path_string (path_of path)) };
-
-    fn to_json(&self, alloc: Global) -> Result<Value, ToJsonError> {
-        string_to_json(alloc, self.value)
     }
 }

@@ -1,0 +1,4 @@
+//! Conversion of timestamps from and to dates.
+#![tactic(auto)]
+
+pub mod timestamp;

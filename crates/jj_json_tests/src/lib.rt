@@ -1,0 +1,4 @@
+//! Callers of conversions to JSON.
+#![tactic(auto)]
+
+pub mod callers;
