@@ -1,0 +1,15 @@
+use Rattle.std.proofs.Common.{◌≡◌, ◌++◌, length}
+use Rattle.jj_diff_presentation.specs.Lines.{split_lines}
+use Rattle.jj_diff_presentation.specs.Scripts.{left_lines, right_lines, on_left, on_right}
+use Rattle.jj_diff_presentation.proofs.unified.script.push_lines.Given as goal
+
+abbrev pub invariant-loop-rest : goal.invariant-loop-rest
+invariant-loop-rest l = record {
+  left : left_lines l.lines.items ++ on_left l.line_type (split_lines l.rest)
+      ≡ left_lines l.fn.lines.items ++ on_left l.line_type (split_lines l.text);
+  right : right_lines l.lines.items ++ on_right l.line_type (split_lines l.rest)
+      ≡ right_lines l.fn.lines.items ++ on_right l.line_type (split_lines l.text);
+}
+
+abbrev pub decreases-loop-rest : goal.decreases-loop-rest
+decreases-loop-rest l = length l.rest

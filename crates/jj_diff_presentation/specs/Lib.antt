@@ -1,0 +1,4 @@
+-- in reading order
+pub mod Lines
+pub mod Scripts
+pub mod Hunks
