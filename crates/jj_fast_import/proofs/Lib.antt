@@ -1,0 +1,4 @@
+pub mod Splits
+pub mod Delimited
+pub mod Repeated
+pub mod Unquoting
