@@ -1,2 +1,7 @@
+pub mod Parts
+pub mod Joining
 pub mod Resolving
 pub mod MeasureLaws
+pub mod SideLaws
+pub mod Changes
+pub mod Results

@@ -4,11 +4,12 @@ use Rattle.std.proofs.lemmas.Int.{ints}
 use Rattle.std.proofs.lemmas.Slice.Eq.{bytes_eq-Decides}
 use Rattle.std.specs.Prelude.{count_by, pos, ◌-ℤ◌, ◌<ℤ◌}
 use Rattle.std.specs.Str.{bytes_eq}
-use Rattle.std.specs.List.{fold}
-use Rattle.std.proofs.lemmas.List.{take_more, take_all, length-map, append-nil}
+use Rattle.std.specs.List.{fold, AllZip}
+use Rattle.std.proofs.lemmas.List.{take_more, take_all, length-map, append-nil, map_push}
 use Rattle.std.proofs.lemmas.List.Elements.{AllZip-push, All-map, All-nil, All-cons}
 use Rattle.jj_diff.specs.declared.diff.hunks.DiffHunk.{DiffHunk}
-use Rattle.jj_diff.specs.declared.diff.tokens.Tokenizer.TheVariants.{Lines}
+use Rattle.jj_diff.specs.declared.diff.tokens.Tokenizer.{Tokenizer}
+use Rattle.jj_diff.specs.declared.diff.tokens.Tokenizer.TheVariants.{Lines, Words}
 use Rattle.jj_diff.specs.Inputs.{bytes_of, side}
 use Rattle.jj_diff.specs.Tokens.{IsCut}
 use Rattle.jj_diff.proofs.Rows.{cut_whole}
@@ -17,8 +18,10 @@ use Rattle.jj_merges.specs.declared.merge.SameChange.{SameChange}
 use Rattle.jj_merges.specs.declared.merge.SameChange.TheVariants.{Keep, Accept}
 use Rattle.jj_merges.specs.Merge.{adds, removes, signed_count, IsOdd}
 use Rattle.jj_merges.specs.Resolution.{ResolvesTo}
-use Rattle.jj_content_merges.specs.declared.files.MergeHunk.{MergeHunk}
-use Rattle.jj_content_merges.specs.Files.{terms_of, IsOutcome, Outcomes, IsContentMerge}
+use Rattle.jj_content_merges.specs.declared.files.hunks.MergeHunk.{MergeHunk}
+use Rattle.jj_content_merges.specs.declared.files.FileMergeHunkLevel.{FileMergeHunkLevel}
+use Rattle.jj_content_merges.specs.Hunks.{all_resolved, merged_side}
+use Rattle.jj_content_merges.specs.Files.{terms_of, IsSplit, IsOutcome, Outcomes, IsTokenMerge, IsWordMerge, IsHunk, IsContentMerge}
 
 abbrev pub Text : Type 0
 Text = Bor (List ℕ)
@@ -68,30 +71,26 @@ module _ (m : List Text) where
     (λ x y lt mt. r.2 x.now y.now (subst (λ z. z <ℤ pos 0) (counts x) lt) (subst (λ z. z <ℤ pos 0) (counts y) mt)),
   )
 
-map-push : {A B : Type 0} (f : A → B) (xs : List A) (x : A) → map f (xs ++ x ∷ []) ≡ map f xs ++ f x ∷ []
-map-push f [] x = refl
-map-push f (y ∷ xs) x = ap (λ ys. f y ∷ ys) (map-push f xs x)
-
 -- one more hunk
-pub outcomes_push : (same : SameChange) (hs : List DiffHunk) (i : ℕ) (h : DiffHunk) (ms : List MergeHunk) (m : MergeHunk)
-    → i < length hs → h ≡ get_or hs i h
-    → Outcomes same (map row_of (take i hs)) (map terms_of ms) → IsOutcome same (row_of h) (terms_of m)
-    → Outcomes same (map row_of (take (i + 1) hs)) (map terms_of (ms ++ m ∷ []))
-outcomes_push same hs i h ms m lt e before here =
+pub zip_push : (R : List (List ℕ) → List (List ℕ) → Type 0) (hs : List DiffHunk) (i : ℕ) (h : DiffHunk)
+    (ms : List MergeHunk) (m : MergeHunk) → i < length hs → h ≡ get_or hs i h
+    → AllZip R (map row_of (take i hs)) (map terms_of ms) → R (row_of h) (terms_of m)
+    → AllZip R (map row_of (take (i + 1) hs)) (map terms_of (ms ++ m ∷ []))
+zip_push R hs i h ms m lt e before here =
     let rows : map row_of (take (i + 1) hs) ≡ map row_of (take i hs) ++ row_of h ∷ [] =
-    ap (map row_of) (take_more hs i h lt ∙ ap (λ x. take i hs ++ x ∷ []) (sym e)) ∙ map-push row_of (take i hs) h in
-    let terms : map terms_of (ms ++ m ∷ []) ≡ map terms_of ms ++ terms_of m ∷ [] = map-push terms_of ms m in
-    subst (λ xs. Outcomes same xs (map terms_of (ms ++ m ∷ []))) (sym rows)
-    (subst (λ ys. Outcomes same (map row_of (take i hs) ++ row_of h ∷ []) ys) (sym terms)
-    (AllZip-push (IsOutcome same) (map row_of (take i hs)) (map terms_of ms) (row_of h) (terms_of m) before here))
+    ap (map row_of) (take_more hs i h lt ∙ ap (λ x. take i hs ++ x ∷ []) (sym e)) ∙ map_push row_of (take i hs) h in
+    let terms : map terms_of (ms ++ m ∷ []) ≡ map terms_of ms ++ terms_of m ∷ [] = map_push terms_of ms m in
+    subst (λ xs. AllZip R xs (map terms_of (ms ++ m ∷ []))) (sym rows)
+    (subst (λ ys. AllZip R (map row_of (take i hs) ++ row_of h ∷ []) ys) (sym terms)
+    (AllZip-push R (map row_of (take i hs)) (map terms_of ms) (row_of h) (terms_of m) before here))
 
 pub length-bytes_of : (m : List Text) → length (bytes_of m) ≡ length m
 length-bytes_of m = length-map m (λ r. r.now)
 
 -- a comparison of an odd number of inputs has odd rows
-pub odd_rows : (inputs : List (List ℕ)) (hs : List DiffHunk) → IsDiff Lines inputs hs → IsOdd (length inputs)
-    → All (λ h. IsOdd (length h.contents.items)) hs
-odd_rows inputs hs diff odd k d lt =
+pub odd_rows : (tokenizer : Tokenizer) (inputs : List (List ℕ)) (hs : List DiffHunk) → IsDiff tokenizer inputs hs
+    → IsOdd (length inputs) → All (λ h. IsOdd (length h.contents.items)) hs
+odd_rows tokenizer inputs hs diff odd k d lt =
     subst IsOdd (sym (sym (length-bytes_of (get_or hs k d).contents.items) ∙ (diff.hunks k d lt).len)) odd
 
 take-map : (k : ℕ) (hs : List DiffHunk) → take k (map row_of hs) ≡ map row_of (take k hs)
@@ -108,17 +107,28 @@ whole_lines inputs i (suc zero) =
 whole_lines inputs i (suc (suc k)) =
     subst (λ xs. IsCut Lines (get_or inputs i []) (length xs)) (sym (append-nil (get_or inputs i []))) (cut_whole Lines (get_or inputs i []))
 
-pub content_merge : (same : SameChange) (inputs : List (List ℕ)) (hs : List DiffHunk) (ms : List MergeHunk)
-    → IsDiff Lines inputs hs → Outcomes same (map row_of hs) (map terms_of ms) → IsContentMerge same inputs ms
-content_merge same inputs hs ms diff outcomes = record {
-  rows = map row_of hs;
+-- the rows of a comparison
+split_of : (tokenizer : Tokenizer) (inputs : List (List ℕ)) (hs : List DiffHunk) → IsDiff tokenizer inputs hs
+    → IsSplit tokenizer inputs (map row_of hs)
+split_of tokenizer inputs hs diff = record {
   width = All-map (λ row. length row ≡ length inputs) row_of hs (λ k d lt. (diff.hunks k d lt).len);
   sides = diff.sides;
-  lines = λ k i le lt.
-      subst (λ rows. IsCut Lines (get_or inputs i []) (length (side i rows))) (sym (take-map k hs))
+  cuts = λ k i le lt.
+      subst (λ rows. IsCut tokenizer (get_or inputs i []) (length (side i rows))) (sym (take-map k hs))
       (diff.cuts k i (subst (λ n. k ≤ n) (length-map hs row_of) le) lt);
-  outcomes = outcomes;
 }
+
+pub token_merge : (tokenizer : Tokenizer) (same : SameChange) (inputs : List (List ℕ)) (hs : List DiffHunk)
+    (ms : List MergeHunk) → IsDiff tokenizer inputs hs → Outcomes same (map row_of hs) (map terms_of ms)
+    → IsTokenMerge tokenizer same inputs (map terms_of ms)
+token_merge tokenizer same inputs hs ms diff outcomes =
+    record { rows = map row_of hs; split = split_of tokenizer inputs hs diff; outcomes = outcomes }
+
+pub content_merge : (level : FileMergeHunkLevel) (same : SameChange) (inputs : List (List ℕ)) (hs : List DiffHunk)
+    (ms : List MergeHunk) → IsDiff Lines inputs hs → AllZip (IsHunk level same) (map row_of hs) (map terms_of ms)
+    → IsContentMerge level same inputs (map terms_of ms)
+content_merge level same inputs hs ms diff outcomes =
+    record { rows = map row_of hs; split = split_of Lines inputs hs diff; outcomes = outcomes }
 
 one_not_zero : pos 1 ≡ pos 0 → ⊥
 one_not_zero e = grind (arith, ints)
@@ -131,20 +141,45 @@ resolves_unique Keep m v w r q =
 resolves_unique Accept m v w r q = (bytes_eq-Decides v w).0 (r.1 w q.0)
 
 -- the terms as one row
-pub whole_merge : (same : SameChange) (inputs : List (List ℕ)) (v : List ℕ) (ms : List MergeHunk)
-    → map terms_of ms ≡ (v ∷ []) ∷ [] → ResolvesTo bytes_eq same inputs v → IsContentMerge same inputs ms
-whole_merge same inputs v ms e r = record {
+pub whole_merge : (level : FileMergeHunkLevel) (same : SameChange) (inputs : List (List ℕ)) (v : List ℕ)
+    (hunks : List (List (List ℕ))) → hunks ≡ (v ∷ []) ∷ [] → ResolvesTo bytes_eq same inputs v
+    → IsContentMerge level same inputs hunks
+whole_merge level same inputs v hunks e r = record {
   rows = inputs ∷ [];
-  width = All-cons (λ row. length row ≡ length inputs) inputs [] refl (All-nil (λ row. length row ≡ length inputs));
-  sides = λ i lt. append-nil (get_or inputs i []);
-  lines = λ k i le lt. whole_lines inputs i k;
-  outcomes = subst (Outcomes same (inputs ∷ [])) (sym e) (inl (v, refl, r), tt);
+  split = record {
+    width = All-cons (λ row. length row ≡ length inputs) inputs [] refl (All-nil (λ row. length row ≡ length inputs));
+    sides = λ i lt. append-nil (get_or inputs i []);
+    cuts = λ k i le lt. whole_lines inputs i k;
+  };
+  outcomes = subst (AllZip (IsHunk level same) (inputs ∷ [])) (sym e) (inl (v, refl, r), tt);
 }
 
-pub ruleset outcome_steps = (outcomes_push, take_all)
+-- the outcome of a merge by words
+pub words_resolved : (same : SameChange) (row : List (List ℕ)) (ms : List (List (List ℕ)))
+    (text : List ℕ) → IsTokenMerge Words same row ms → all_resolved ms ≡ true → text ≡ merged_side 0 ms
+    → IsWordMerge same row (text ∷ [])
+words_resolved same row ms text m e f = record {
+  words = ms;
+  merge = m;
+  outcome = ap (λ x. x ∷ []) f
+      ∙ sym (ap (λ b. cond b (merged_side 0 ms ∷ []) row) e);
+}
+
+pub words_unresolved : (same : SameChange) (row terms : List (List ℕ)) (ms : List (List (List ℕ)))
+    → IsTokenMerge Words same row ms → all_resolved ms ≡ false → terms ≡ row
+    → IsWordMerge same row terms
+words_unresolved same row terms ms m e f = record {
+  words = ms;
+  merge = m;
+  outcome = f ∙ sym (ap (λ b. cond b (merged_side 0 ms ∷ []) row) e);
+}
+
+pub ruleset outcome_steps = (zip_push, take_all)
 
 pub ruleset row_steps = (resolves_bytes, resolves_texts)
 
-pub ruleset merge_steps = (odd_rows, content_merge, length-bytes_of)
+pub ruleset merge_steps = (odd_rows, token_merge, content_merge, length-bytes_of)
+
+pub ruleset word_steps = (words_resolved, words_unresolved)
 
 pub ruleset whole_steps = (whole_merge, resolves_unique, resolves_bytes, resolves_texts)

@@ -1,2 +1,4 @@
+-- in reading order
+pub mod Hunks
 pub mod Files
 pub mod Measures

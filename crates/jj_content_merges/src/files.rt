@@ -1,73 +1,51 @@
-//! Content merge: the terms of a merge are compared line by line, and each hunk is resolved if its
-//! signed counts decide it.
-ghost use Rattle.std.specs.Prelude.{◌≡◌, ℕ, ◌<◌, ◌++◌, List, [], ◌∷◌, length, map, IfOk, All};
+//! Content merge: the terms of a merge are compared line by line with the first remove, and each
+//! hunk is resolved if its signed counts, or those of its words, decide it.
+ghost use Rattle.std.specs.Prelude.{◌≡◌, ℕ, List, [], ◌∷◌, length, map, IfOk};
+ghost use Rattle.std.specs.Option.{option_map};
 ghost use Rattle.std.specs.Str.{bytes_eq};
 ghost use Rattle.jj_diff.specs.Inputs.{bytes_of};
-ghost use Rattle.jj_diff.specs.Hunks.{row_of};
 ghost use Rattle.jj_merges.specs.Merge.{IsOdd};
 ghost use Rattle.jj_merges.specs.Resolution.{ResolvesTo};
-ghost use Rattle.jj_content_merges.specs.Files.{terms_of, Outcomes, IsOutcome, IsContentMerge};
+ghost use Rattle.jj_content_merges.specs.Hunks.{merge_contents, merged_terms};
+ghost use Rattle.jj_content_merges.specs.Files.{terms_of, IsContentMerge, IsMergeResult, IsResolvedTo, tried_outcome};
 
-use jj_diff::diff::{DiffHunk, diff_by_line};
+mod hunks;
+mod joining;
+mod rows;
+
+pub use hunks::MergeHunk;
+use hunks::{are_resolved, side_of, sides_of};
 use jj_merges::merge::{Merge, SameChange, trivial_merge};
+use joining::join_hunks;
+use rows::merge_by_lines;
+use smallvec::SmallVec;
 use std::alloc::{AllocError, Global};
 
-/// A hunk of a merge of contents: resolved, or with a part of each term.
+/// The granularity of a merge.
+#[derive(Copy, Clone, Debug, PartialEq, Eq, Drop)]
+pub enum FileMergeHunkLevel {
+    /// Hunks of whole lines.
+    Line,
+    /// Hunks of whole lines; one that does not resolve is merged by words, and is resolved if that
+    /// leaves no conflict.
+    Word,
+}
+
+/// How contents are merged.
+#[derive(Copy, Clone, Debug, PartialEq, Eq, Drop)]
+pub struct MergeOptions {
+    pub hunk_level: FileMergeHunkLevel,
+    pub same_change: SameChange,
+}
+
+/// A merge of contents.
 #[derive(Drop)]
-pub enum MergeHunk<'a> {
-    Resolved(&'a [u8]),
-    Conflict(Vec<&'a [u8]>),
-}
-
-// Resolves a hunk if the signed counts of its parts decide it.
-#[tactic(auto, using(crate::proofs::Resolving::row_steps))]
-fn merge_row<'a>(
-    alloc: Global,
-    row: &[&'a [u8]],
-    same_change: SameChange,
-) -> Result<MergeHunk<'a>, AllocError>
-    requires { IsOdd (length row.now) }
-    ensures { IfOk result (λ hunk. IsOutcome same_change (bytes_of row.now) (terms_of hunk)) }
-{
-    match trivial_merge(row, same_change) {
-        Some(value) => Ok(MergeHunk::Resolved(*value)),
-        None => Ok(MergeHunk::Conflict(Vec::from_slice(alloc, row)?)),
-    }
-}
-
-// Merges the hunks of a comparison.
-#[tactic(auto, using(crate::proofs::Resolving::outcome_steps))]
-fn merge_rows<'a>(
-    alloc: Global,
-    hunks: &[DiffHunk<'a>],
-    same_change: SameChange,
-) -> Result<Vec<MergeHunk<'a>>, AllocError>
-    requires { All (λ hunk. IsOdd (length hunk.contents.items)) hunks.now }
-    ensures { IfOk result
-        (λ merged. Outcomes same_change (map row_of hunks.now) (map terms_of merged.items)) }
-{
-    let mut merged = Vec::with_capacity(alloc, hunks.len())?;
-    for hunk in hunks {
-        let outcome = merge_row(alloc, &hunk.contents, same_change)?;
-        merged.push(outcome)?;
-    }
-    Ok(merged)
-}
-
-// Merges the terms hunk by hunk.
-#[tactic(auto, using(crate::proofs::Resolving::merge_steps))]
-fn merge_by_hunk<'a>(
-    alloc: Global,
-    terms: &[&'a [u8]],
-    same_change: SameChange,
-) -> Result<Vec<MergeHunk<'a>>, AllocError>
-    requires { IsOdd (length terms.now) }
-    ensures { IfOk result
-        (λ merged. IsContentMerge same_change (bytes_of terms.now) merged.items) }
-{
-    let hunks = diff_by_line(alloc, terms, 1)?;
-    let merged = merge_rows(alloc, &hunks, same_change)?;
-    Ok(merged)
+pub enum MergeResult {
+    /// The merged contents. No conflict is left.
+    Resolved(Vec<u8>),
+    /// The hunks, with a conflict among them. No two resolved ones are adjacent, and none of them
+    /// is empty.
+    Conflict(Vec<Merge<Vec<u8>>>),
 }
 
 fn single_hunk<'a>(alloc: Global, value: &'a [u8]) -> Result<Vec<MergeHunk<'a>>, AllocError>
@@ -79,47 +57,100 @@ fn single_hunk<'a>(alloc: Global, value: &'a [u8]) -> Result<Vec<MergeHunk<'a>>,
 }
 
 /// Merges a list of terms, adds at even indices: compares them line by line with the first remove,
-/// and resolves each hunk whose signed counts decide it. The hunks are in order; a hunk that is
-/// resolved contains the part of a term. Terms that resolve as a whole are one hunk.
+/// and resolves each hunk whose signed counts decide it. The hunks are in order and not joined.
+/// Terms that resolve as a whole are one hunk.
 #[tactic(auto, using(crate::proofs::Resolving::whole_steps))]
 pub fn merge_terms<'a>(
     alloc: Global,
     terms: &[&'a [u8]],
-    same_change: SameChange,
+    options: &MergeOptions,
 ) -> Result<Vec<MergeHunk<'a>>, AllocError>
     requires { IsOdd (length terms.now) }
-    ensures merge { IfOk result
-        (λ merged. IsContentMerge same_change (bytes_of terms.now) merged.items) }
+    ensures merge { IfOk result (λ merged. IsContentMerge options.now.hunk_level
+        options.now.same_change (bytes_of terms.now) (map terms_of merged.items)) }
     ensures whole { IfOk result (λ merged. (v : List ℕ)
-        → ResolvesTo bytes_eq same_change (bytes_of terms.now) v
+        → ResolvesTo bytes_eq options.now.same_change (bytes_of terms.now) v
         → map terms_of merged.items ≡ (v ∷ []) ∷ []) }
 {
-    match trivial_merge(terms, same_change) {
+    match trivial_merge(terms, options.same_change) {
         Some(value) => {
             let merged = single_hunk(alloc, *value)?;
             Ok(merged)
         }
         None => {
-            let merged = merge_by_hunk(alloc, terms, same_change)?;
+            let merged = merge_by_lines(alloc, terms, options.hunk_level, options.same_change)?;
             Ok(merged)
         }
     }
 }
 
-/// Merges the contents of a merge. See `merge_terms`.
-pub fn merge_hunks<'a>(
+/// Merges contents into hunks. Linear but for the comparison.
+#[tactic(auto, using(crate::proofs::Results::result_steps))]
+pub fn merge_hunks(
     alloc: Global,
-    inputs: &Merge<&'a [u8]>,
-    same_change: SameChange,
-) -> Result<Vec<MergeHunk<'a>>, AllocError>
-    // The hunks are the outcomes of rows of whole lines, whose columns, joined, are the inputs.
-    ensures merge { IfOk result
-        (λ merged. IsContentMerge same_change (bytes_of inputs.now) merged.items) }
-    // If the whole contents resolve to a value, this is the only hunk.
+    inputs: &Merge<&[u8]>,
+    options: &MergeOptions,
+) -> Result<MergeResult, AllocError>
+    // The result is that of hunks that are outcomes of rows of whole lines, whose columns, joined,
+    // are the inputs. It is resolved exactly if no hunk is a conflict.
+    ensures merge { IfOk result (λ merged. IsMergeResult options.now.hunk_level
+        options.now.same_change (bytes_of inputs.now) merged) }
+    // If the whole contents resolve to a value, this is the result.
     ensures whole { IfOk result (λ merged. (v : List ℕ)
-        → ResolvesTo bytes_eq same_change (bytes_of inputs.now) v
-        → map terms_of merged.items ≡ (v ∷ []) ∷ []) }
+        → ResolvesTo bytes_eq options.now.same_change (bytes_of inputs.now) v
+        → IsResolvedTo v merged) }
 {
-    let merged = merge_terms(alloc, inputs.as_slice(), same_change)?;
-    Ok(merged)
+    let hunks = merge_terms(alloc, inputs.as_slice(), options)?;
+    if are_resolved(&hunks) {
+        let text = side_of(alloc, &hunks, 0)?;
+        return Ok(MergeResult::Resolved(text));
+    }
+    let merged = join_hunks(alloc, &hunks)?;
+    Ok(MergeResult::Conflict(merged))
+}
+
+/// Merges contents into one merge: the merged contents, or as many terms as the inputs have, each
+/// with the hunks that are resolved and its own parts of the others.
+#[tactic(auto, using(crate::proofs::Results::result_steps))]
+pub fn merge(
+    alloc: Global,
+    inputs: &Merge<&[u8]>,
+    options: &MergeOptions,
+) -> Result<Merge<Vec<u8>>, AllocError>
+    ensures merge { IfOk result (λ merged. (hunks : List (List (List ℕ)))
+        × IsContentMerge options.now.hunk_level options.now.same_change (bytes_of inputs.now) hunks
+        × (merge_contents merged ≡ merged_terms (length inputs.now) hunks)) }
+    ensures whole { IfOk result (λ merged. (v : List ℕ)
+        → ResolvesTo bytes_eq options.now.same_change (bytes_of inputs.now) v
+        → merge_contents merged ≡ v ∷ []) }
+{
+    let hunks = merge_terms(alloc, inputs.as_slice(), options)?;
+    if are_resolved(&hunks) {
+        let text = side_of(alloc, &hunks, 0)?;
+        return Ok(Merge::resolved(alloc, text));
+    }
+    let terms = sides_of(alloc, &hunks, inputs.as_slice().len())?;
+    Ok(Merge::from_vec(SmallVec::from_vec(terms)))
+}
+
+/// Merges contents. Returns `None` if a conflict is left.
+#[tactic(auto, using(crate::proofs::Results::result_steps))]
+pub fn try_merge(
+    alloc: Global,
+    inputs: &Merge<&[u8]>,
+    options: &MergeOptions,
+) -> Result<Option<Vec<u8>>, AllocError>
+    ensures merge { IfOk result (λ merged. (hunks : List (List (List ℕ)))
+        × IsContentMerge options.now.hunk_level options.now.same_change (bytes_of inputs.now) hunks
+        × (option_map (λ text. text.items) merged ≡ tried_outcome hunks)) }
+    ensures whole { IfOk result (λ merged. (v : List ℕ)
+        → ResolvesTo bytes_eq options.now.same_change (bytes_of inputs.now) v
+        → option_map (λ text. text.items) merged ≡ Some v) }
+{
+    let hunks = merge_terms(alloc, inputs.as_slice(), options)?;
+    if !are_resolved(&hunks) {
+        return Ok(None);
+    }
+    let text = side_of(alloc, &hunks, 0)?;
+    Ok(Some(text))
 }

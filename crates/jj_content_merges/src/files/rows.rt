@@ -1,0 +1,143 @@
+//! The outcomes of rows: the part of each term between cuts of a comparison.
+ghost use Rattle.std.specs.Prelude.{◌≡◌, ℕ, length, map, IfOk, All};
+ghost use Rattle.jj_diff.specs.Inputs.{bytes_of};
+ghost use Rattle.jj_diff.specs.Hunks.{row_of};
+ghost use Rattle.jj_diff.specs.declared.diff.tokens.Tokenizer.TheVariants.{Words};
+ghost use Rattle.jj_merges.specs.Merge.{IsOdd};
+ghost use Rattle.std.specs.List.{AllZip};
+ghost use Rattle.jj_content_merges.specs.Files.{terms_of, Outcomes, IsOutcome, IsHunk, IsTokenMerge, IsWordMerge, IsContentMerge};
+
+use super::FileMergeHunkLevel;
+use super::hunks::{MergeHunk, are_resolved, side_of};
+use jj_diff::diff::{ContentDiff, DiffHunk, diff_by_line};
+use jj_merges::merge::{SameChange, trivial_merge};
+use std::alloc::{AllocError, Global};
+
+// Resolves a row if the signed counts of its parts decide it.
+#[tactic(auto, using(crate::proofs::Resolving::row_steps))]
+fn merge_row<'a>(
+    alloc: Global,
+    row: &[&'a [u8]],
+    same_change: SameChange,
+) -> Result<MergeHunk<'a>, AllocError>
+    requires { IsOdd (length row.now) }
+    ensures { IfOk result (λ hunk. IsOutcome same_change (bytes_of row.now) (terms_of hunk)) }
+{
+    match trivial_merge(row, same_change) {
+        Some(value) => Ok(MergeHunk::Resolved(*value)),
+        None => Ok(MergeHunk::Conflict(Vec::from_slice(alloc, row)?)),
+    }
+}
+
+// Resolves the rows of a comparison whose signed counts decide them.
+#[tactic(auto, using(crate::proofs::Resolving::outcome_steps))]
+fn merge_rows<'a>(
+    alloc: Global,
+    hunks: &[DiffHunk<'a>],
+    same_change: SameChange,
+) -> Result<Vec<MergeHunk<'a>>, AllocError>
+    requires { All (λ hunk. IsOdd (length hunk.contents.items)) hunks.now }
+    ensures { IfOk result
+        (λ merged. Outcomes same_change (map row_of hunks.now) (map terms_of merged.items)) }
+{
+    let mut merged = Vec::with_capacity(alloc, hunks.len())?;
+    for hunk in hunks {
+        let outcome = merge_row(alloc, &hunk.contents, same_change)?;
+        merged.push(outcome)?;
+    }
+    Ok(merged)
+}
+
+// Merges a row word by word.
+#[tactic(auto, using(crate::proofs::Resolving::merge_steps))]
+fn merge_by_words<'a>(
+    alloc: Global,
+    row: &[&'a [u8]],
+    same_change: SameChange,
+) -> Result<Vec<MergeHunk<'a>>, AllocError>
+    requires { IsOdd (length row.now) }
+    ensures { IfOk result (λ merged.
+        IsTokenMerge Words same_change (bytes_of row.now) (map terms_of merged.items)) }
+{
+    let words = ContentDiff::by_word(alloc, row)?;
+    let merged = merge_rows(alloc, words.hunks(), same_change)?;
+    Ok(merged)
+}
+
+// Merges a row word by word. Returns the row if that leaves a conflict.
+#[tactic(auto, using(crate::proofs::Resolving::word_steps))]
+fn merge_words<'a>(
+    alloc: Global,
+    row: &[&'a [u8]],
+    same_change: SameChange,
+) -> Result<MergeHunk<'a>, AllocError>
+    requires { IsOdd (length row.now) }
+    ensures { IfOk result (λ hunk. IsWordMerge same_change (bytes_of row.now) (terms_of hunk)) }
+{
+    let words = merge_by_words(alloc, row, same_change)?;
+    if are_resolved(&words) {
+        let text = side_of(alloc, &words, 0)?;
+        return Ok(MergeHunk::Merged(text));
+    }
+    Ok(MergeHunk::Conflict(Vec::from_slice(alloc, row)?))
+}
+
+// Resolves a row if the signed counts of its parts decide it or, at the level of words, if its
+// words do.
+#[tactic(auto, using(crate::proofs::Resolving::row_steps))]
+fn merge_hunk<'a>(
+    alloc: Global,
+    row: &[&'a [u8]],
+    level: FileMergeHunkLevel,
+    same_change: SameChange,
+) -> Result<MergeHunk<'a>, AllocError>
+    requires { IsOdd (length row.now) }
+    ensures { IfOk result (λ hunk. IsHunk level same_change (bytes_of row.now) (terms_of hunk)) }
+{
+    match trivial_merge(row, same_change) {
+        Some(value) => Ok(MergeHunk::Resolved(*value)),
+        None => match level {
+            FileMergeHunkLevel::Line => Ok(MergeHunk::Conflict(Vec::from_slice(alloc, row)?)),
+            FileMergeHunkLevel::Word => {
+                let hunk = merge_words(alloc, row, same_change)?;
+                Ok(hunk)
+            }
+        },
+    }
+}
+
+#[tactic(auto, using(crate::proofs::Resolving::outcome_steps))]
+fn merge_lines<'a>(
+    alloc: Global,
+    hunks: &[DiffHunk<'a>],
+    level: FileMergeHunkLevel,
+    same_change: SameChange,
+) -> Result<Vec<MergeHunk<'a>>, AllocError>
+    requires { All (λ hunk. IsOdd (length hunk.contents.items)) hunks.now }
+    ensures { IfOk result (λ merged.
+        AllZip (IsHunk level same_change) (map row_of hunks.now) (map terms_of merged.items)) }
+{
+    let mut merged = Vec::with_capacity(alloc, hunks.len())?;
+    for hunk in hunks {
+        let outcome = merge_hunk(alloc, &hunk.contents, level, same_change)?;
+        merged.push(outcome)?;
+    }
+    Ok(merged)
+}
+
+/// Compares the terms line by line with the first remove, and merges each hunk.
+#[tactic(auto, using(crate::proofs::Resolving::merge_steps))]
+pub fn merge_by_lines<'a>(
+    alloc: Global,
+    terms: &[&'a [u8]],
+    level: FileMergeHunkLevel,
+    same_change: SameChange,
+) -> Result<Vec<MergeHunk<'a>>, AllocError>
+    requires { IsOdd (length terms.now) }
+    ensures { IfOk result (λ merged.
+        IsContentMerge level same_change (bytes_of terms.now) (map terms_of merged.items)) }
+{
+    let hunks = diff_by_line(alloc, terms, 1)?;
+    let merged = merge_lines(alloc, &hunks, level, same_change)?;
+    Ok(merged)
+}
