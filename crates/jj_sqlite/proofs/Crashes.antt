@@ -1,9 +1,9 @@
 -- A crash of a log: its statements, on a connection that shows what it did.
-use Rattle.std.proofs.Common.{◌≡◌, ◌++◌, [], ◌∷◌, inl, inr, ℕ, List, Result, Ok, Err, IsTrue, sym, subst, arith}
+use Rattle.std.proofs.Common.{◌≡◌, ◌∙◌, ◌⊎◌, ◌++◌, [], ◌∷◌, inl, inr, ℕ, List, Result, Ok, Err, IsTrue, sym, subst, arith}
 use Rattle.sqlite.specs.Tree.{Trees}
 use Rattle.sqlite.specs.Store.{Ghosts}
 use Rattle.sqlite.specs.Order.{Row}
-use Rattle.sqlite.specs.State.{HasCleanDisk, IsLive, Survives, IsUnchanged, CommitsShowing, Executes, Shown}
+use Rattle.sqlite.specs.State.{HasCleanDisk, IsLive, IsRolledBack, Survives, IsUnchanged, CommitsShowing, Executes, Shown}
 use Rattle.sqlite.specs.Effect.{IsDatabase}
 use Rattle.sqlite.specs.Held.{Held, state}
 use Rattle.sqlite.specs.declared.error.Error.{Error}
@@ -12,13 +12,27 @@ use Rattle.jj_mirror.specs.Entries.{LogEntryValue}
 use Rattle.jj_sqlite.specs.Crashes.{CommitsAsIs, HasLog, RunsAsIs}
 use Rattle.jj_sqlite.specs.Inserts.{ContainsEntries, StoresEntries, WasNewOrContains}
 use Rattle.jj_sqlite.specs.Tables.{create_statement, entry_row, insert_statement, select_statement}
-use Rattle.jj_sqlite.proofs.LogTable.{unchanged, unchanged_new, inserts_durably, committed_by, created_by, creates_durably, creates, keeps, keeps_not_run, shown_open, keeps_reading, reading_commits_nothing}
+use Rattle.jj_sqlite.proofs.LogTable.{failed, not_ran, twice, unchanged, unchanged_new, inserts_durably, committed_by, created_by, creates_durably, creates, keeps, keeps_not_run, shown_open, keeps_reading, reading_commits_nothing}
 
 -- a statement that ran on a connection that shows the same
 pub ran : {S : Type 0} (g : Ghosts S) (sql : List ℕ) (params : Row) (old same new : Held S) (r : Result ℕ Error) → IsUnchanged (state g old) (state g same)
     → Executes sql params (state g same) (state g new) r → RunsAsIs g sql params old new r
 ran g sql params old same new (Ok count) unchanged runs = (same, unchanged, runs)
 ran g sql params old same new (Err e) unchanged runs = inr (same, unchanged, runs)
+
+-- a statement that failed or was not run changed nothing, or was rolled back
+pub ended : {S : Type 0} (g : Ghosts S) (sql : List ℕ) (params : Row) (old new : Held S) (e : Error) → RunsAsIs g sql params old new (Err e) → IsUnchanged (state g old) (state g new) ⊎ IsRolledBack (state g old) (state g new)
+ended g sql params old new e (inl not_run) = not_ran sql params (state g old) (state g new) e not_run
+ended g sql params old new e (inr ran) = elim (failed sql params (state g ran.0) (state g new) e ran.2) [
+  | inl same ↦ inl (twice (state g old) (state g ran.0) (state g new) ran.1 same)
+  | inr back ↦ inr (record {
+    was_open = λ is_open. ran.1.0.was_open;
+    undone = λ is_open. ((back.undone is_open).0 ∙ ran.1.0.committed_is, (back.undone is_open).1 ∙ ran.1.0.committed_is);
+    autocommit = back.autocommit;
+    unmarked = back.unmarked;
+    counts = record { changes = back.counts.changes ∙ ran.1.1.changes; last_rowid = back.counts.last_rowid ∙ ran.1.1.last_rowid };
+  })
+]
 
 -- an insertion commits the log with its entry
 pub appends_or_not : {S : Type 0} (g : Ghosts S) (old new : Held S) (entry : LogEntryValue) → Survives (state g old) (state g new) (CommitsAsIs g insert_statement (entry_row entry) old)
@@ -36,7 +50,7 @@ module _ {S : Type 0} (g : Ghosts S)
     (settled : (s : S) (db : Trees) → IsTrue (g.view s).is_open → g.recovers s db → db ≡ (g.view s).committed)
     (old new : Held S) where
   -- a state of a connection that is open leaves its last commit
-  leaves : (entries : List LogEntryValue) → IsTrue (state g new).is_open → HasLog (state g new).committed.trees entries → (db : Trees) → (state g new).may_leave db → HasLog db entries
+  pub leaves : (entries : List LogEntryValue) → IsTrue (state g new).is_open → HasLog (state g new).committed.trees entries → (db : Trees) → (state g new).may_leave db → HasLog db entries
   leaves entries is_open has db left = subst (λ d. HasLog d entries) (sym (settled new.store db is_open left)) has
 
   pub appended : (entry : LogEntryValue) (count : ℕ) (entries : List LogEntryValue) → (HasCleanDisk (state g new) → HasCleanDisk (state g old))

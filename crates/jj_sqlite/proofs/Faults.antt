@@ -1,15 +1,13 @@
 -- The fault of the log that an error of opening names.
-use Rattle.std.proofs.Common.{◌≡◌, ◌≢◌, ◌∙◌, inl, inr, ℕ, zero, suc, List, [], ◌∷◌, map, take, slice_get, Some, sym, ap, subst, arith}
+use Rattle.std.proofs.Common.{◌≡◌, ◌≢◌, ◌∙◌, inl, inr, ℕ, zero, suc, ◌+◌, pos, List, [], ◌∷◌, map, take, slice_get, Some, sym, ap, subst, arith}
 use Rattle.std.specs.Prelude.{Contains, IsTrue}
-use Rattle.std.specs.List.Sorted.{IsPermutation}
-use Rattle.std.proofs.lemmas.List.Sorted.{Contains-permutation}
 use Rattle.sqlite.specs.declared.error.Error.{Error}
 use Rattle.sqlite.specs.declared.error.Error.TheVariants.{SqliteFailure}
 use Rattle.sqlite.specs.declared.error.ErrorCode.{ErrorCode}
 use Rattle.sqlite.specs.declared.error.ErrorCode.TheVariants.{OutOfMemory}
 use Rattle.sqlite.specs.Held.{Held, state}
 use Rattle.sqlite.specs.Order.{Row, column}
-use Rattle.sqlite.specs.declared.types.Value.TheVariants.{Text}
+use Rattle.sqlite.specs.declared.types.Value.TheVariants.{Int, Text}
 use Rattle.sqlite.specs.State.{HasCleanDisk}
 use Rattle.sqlite.specs.Store.{Ghosts}
 use Rattle.jj_backend.specs.Objects.{Object}
@@ -24,11 +22,11 @@ use Rattle.jj_replay.specs.declared.error.ReplayError.TheVariants as replay
 use Rattle.jj_sqlite.specs.Inserts.{WasNewOrContains}
 use Rattle.jj_sqlite.specs.Opening.{IsOpenError, open_error, sqlite_error}
 use Rattle.jj_sqlite.specs.Rows.{IsReadError}
-use Rattle.jj_sqlite.specs.Tables.{HasEntries, entry_row, select_statement}
+use Rattle.jj_sqlite.specs.Tables.{HasEntries, log_row, log_rows, rows_after, select_statement}
 use Rattle.jj_sqlite.specs.Faults.{HasFault, HasOtherObject}
 use Rattle.jj_sqlite.specs.declared.error.OpenError.{OpenError}
-use Rattle.jj_sqlite.specs.declared.error.OpenError.TheVariants.{Memory, Sqlite, WrongObject, UnknownKind, Malformed, Backend}
-use Rattle.jj_sqlite.proofs.LogTable.{creates, unchanged_new, entry_in, entry_is, reads, shown_entries, shown_rows, shown_open}
+use Rattle.jj_sqlite.specs.declared.error.OpenError.TheVariants.{Memory, Sqlite, Gap, WrongObject, UnknownKind, Malformed, Backend}
+use Rattle.jj_sqlite.proofs.LogTable.{creates, unchanged_new, entry_in, entry_is, reads, same_entries, shown_rows, shown_open}
 
 at_index : {A B : Type 0} (f : A → B) (xs : List A) (i : ℕ) (x : A) → slice_get xs i ≡ Some x → Contains (map f xs) (f x)
 at_index f [] zero x e = absurd cc
@@ -45,57 +43,69 @@ of_sqlite entries (SqliteFailure code) = of_code entries code
 of_sqlite entries _ = tt
 
 -- a row of an entry has its kind
-known_kind : (entries : List LogEntryValue) (row : Row) (name : List ℕ) → Contains (map entry_row entries) row → column row 0 ≡ Text name
+known_kind : (entries : List LogEntryValue) (count : ℕ) (row : Row) (name : List ℕ) → Contains (rows_after count entries) row → column row 1 ≡ Text name
     → ((kind : ObjectKind) → kind_name kind ≢ name) → ⊥
-known_kind [] row name has is unknown = absurd (omega (arith, has.1))
-known_kind (e ∷ entries) row name (zero, within, same) is unknown = unknown e.kind (let k = ap (λ (r : Row). column r 0) same ∙ is in cc)
-known_kind (e ∷ entries) row name (suc k, within, same) is unknown = known_kind entries row name (k, omega (arith, within), same) is unknown
+known_kind [] count row name has is unknown = absurd (omega (arith, has.1))
+known_kind (e ∷ entries) count row name (zero, within, same) is unknown = unknown e.kind (let k = ap (λ (r : Row). column r 1) same ∙ is in cc)
+known_kind (e ∷ entries) count row name (suc k, within, same) is unknown = known_kind entries (count + 1) row name (k, omega (arith, within), same) is unknown
 
-of_rows : (rows : List Row) (entries : List LogEntryValue) (e : OpenError) → IsPermutation rows (map entry_row entries) → IsPermutation (map entry_in rows) entries → IsReadError rows e → HasFault entries e
-of_rows rows entries Memory rows_are same fails = tt
-of_rows rows entries (Sqlite cause) rows_are same fails = tt
-of_rows rows entries (WrongObject kind id) rows_are same fails =
-    let entry = fails.5.0 in
-    let found : Contains (map entry_in rows) entry = subst (λ (e : LogEntryValue). Contains (map entry_in rows) e) (entry_is fails.1 entry fails.5.1) (at_index entry_in rows fails.0 fails.1 fails.3) in
-    (entry, Contains-permutation (map entry_in rows) entries entry same found, (fails.5.2, fails.5.3), fails.5.4)
-of_rows rows entries (UnknownKind id) rows_are same fails =
-    let named = fails.5 in
-    known_kind entries fails.1 named.0 (Contains-permutation rows (map entry_row entries) fails.1 rows_are (item_at rows fails.0 fails.1 fails.3)) named.1 named.3
-of_rows rows entries (Malformed kind id reason offset) rows_are same fails = absurd fails.5
-of_rows rows entries (Backend error) rows_are same fails = absurd fails.5
+-- the row at an index has the next number
+number_at : (entries : List LogEntryValue) (count index : ℕ) (row : Row) → slice_get (rows_after count entries) index ≡ Some row → column row 0 ≡ Int (pos (count + index + 1))
+number_at [] count zero row at = absurd cc
+number_at [] count (suc index) row at = absurd cc
+number_at (e ∷ entries) count zero row at =
+    let same : log_row (count + 1) e ≡ row = cc in
+    ap (λ (r : Row). column r 0) (sym same) ∙ ap (λ n. Int (pos n)) (omega arith)
+number_at (e ∷ entries) count (suc index) row at = number_at entries (count + 1) index row at ∙ ap (λ n. Int (pos n)) (omega arith)
+
+of_rows : (rows : List Row) (entries : List LogEntryValue) (e : OpenError) → rows ≡ log_rows entries → IsReadError rows e → HasFault entries e
+of_rows rows entries Memory are fails = tt
+of_rows rows entries (Sqlite cause) are fails = tt
+of_rows rows entries (Gap count) are fails =
+    let at = subst (λ (l : List Row). slice_get l fails.0 ≡ Some fails.1) are fails.3 in
+    fails.5.1 (number_at entries 0 fails.0 fails.1 at ∙ ap (λ n. Int (pos n)) (omega arith))
+of_rows rows entries (WrongObject kind id) are fails =
+    let wrong = fails.5.0 in
+    let entry = wrong.0 in
+    let same : map entry_in rows ≡ entries = ap (map entry_in) are ∙ same_entries entries 0 in
+    let found : Contains (map entry_in rows) entry = subst (λ (e : LogEntryValue). Contains (map entry_in rows) e) (entry_is fails.1 entry wrong.1) (at_index entry_in rows fails.0 fails.1 fails.3) in
+    (entry, subst (λ (l : List LogEntryValue). Contains l entry) same found, (wrong.2, wrong.3), wrong.4)
+of_rows rows entries (UnknownKind id) are fails =
+    let named = fails.5.0 in
+    known_kind entries 0 fails.1 named.0 (subst (λ (l : List Row). Contains l fails.1) are (item_at rows fails.0 fails.1 fails.3)) named.1 named.3
+of_rows rows entries (Malformed kind id reason offset) are fails = absurd fails.5.0
+of_rows rows entries (Backend error) are fails = absurd fails.5.0
 
 -- a different object that was stored earlier is initial or that of an entry
-other_object : (read entries : List LogEntryValue) (index : ℕ) (before : MemoryBackendValue) (object : Object) → IsPermutation read entries → IsReplay (take index read) before
+other_object : (entries : List LogEntryValue) (index : ℕ) (before : MemoryBackendValue) (object : Object) → IsReplay (take index entries) before
     → IsDigestTaken (objects_of before) object → HasOtherObject entries object
-other_object read entries index before object same earlier taken = (
+other_object entries index before object earlier taken = (
   taken.0,
   taken.1,
   taken.3,
   elim (earlier.only (entry_of object).id taken.0 taken.2) [
     | inl initial ↦ inl initial
-    | inr has ↦ inr (Contains-permutation read entries (entry_of taken.0) same (Contains-taken index read (entry_of taken.0) has.0), has.1)
+    | inr has ↦ inr (Contains-taken index entries (entry_of taken.0) has.0, has.1)
   ],
 )
 
-of_replay : (read entries : List LogEntryValue) (cause : ReplayError) → IsPermutation read entries → IsReplayError read cause → HasFault entries (open_error cause)
-of_replay read entries replay.Memory same fails = tt
-of_replay read entries (replay.Malformed kind id reason offset) same fails =
-    (fails.1, Contains-permutation read entries fails.1 same (item_at read fails.0 fails.1 fails.3), fails.5.0, fails.5.1)
-of_replay read entries (replay.WrongObject kind id) same fails =
-    (fails.1, Contains-permutation read entries fails.1 same (item_at read fails.0 fails.1 fails.3), fails.5.0, fails.5.1)
-of_replay read entries (replay.Backend error) same fails =
+of_replay : (entries : List LogEntryValue) (cause : ReplayError) → IsReplayError entries cause → HasFault entries (open_error cause)
+of_replay entries replay.Memory fails = tt
+of_replay entries (replay.Malformed kind id reason offset) fails = (fails.1, item_at entries fails.0 fails.1 fails.3, fails.5.0, fails.5.1)
+of_replay entries (replay.WrongObject kind id) fails = (fails.1, item_at entries fails.0 fails.1 fails.3, fails.5.0, fails.5.1)
+of_replay entries (replay.Backend error) fails =
     let of = fails.5.1 in (
       fails.5.0,
       (
         fails.1,
-        Contains-permutation read entries fails.1 same (item_at read fails.0 fails.1 fails.3),
+        item_at entries fails.0 fails.1 fails.3,
         (
           of.0,
           of.1,
           of.2,
           elim of.3 [
             | inl parentless ↦ inl parentless
-            | inr taken ↦ inr (other_object read entries fails.0 fails.2 of.0 same fails.4 taken)
+            | inr taken ↦ inr (other_object entries fails.0 fails.2 of.0 fails.4 taken)
           ],
         ),
       ),
@@ -112,9 +122,10 @@ has_fault g old new entries e clean had fails = elim fails [
       elim rest.2 [
         | inl read ↦ elim read [
           | inl query ↦ subst (HasFault entries) (sym query.1) (of_sqlite entries query.0)
-          | inr rows ↦ of_rows rows.0 entries e (shown_rows (state g rest.0) (state g new) rows.0 entries (has (shown_open select_statement [] (state g rest.0) (state g new) rows.0 rows.1)) rows.1) (shown_entries (state g rest.0) (state g new) rows.0 entries (has (shown_open select_statement [] (state g rest.0) (state g new) rows.0 rows.1)) rows.1) rows.2
+          | inr rows ↦ of_rows rows.0 entries e (shown_rows (state g rest.0) (state g new) rows.0 entries (has (shown_open select_statement [] (state g rest.0) (state g new) rows.0 rows.1)) rows.1) rows.2
         ]
-        | inr replayed ↦ subst (HasFault entries) (sym replayed.is_error) (of_replay replayed.entries entries replayed.cause
-            (reads (state g rest.0) (state g new) replayed.rows replayed.entries entries (has (shown_open select_statement [] (state g rest.0) (state g new) replayed.rows replayed.are_read)) replayed.are_read replayed.are_good) replayed.is_cause)
+        | inr replayed ↦
+            let read = reads (state g rest.0) (state g new) replayed.rows replayed.entries entries (has (shown_open select_statement [] (state g rest.0) (state g new) replayed.rows replayed.are_read)) replayed.are_read replayed.are_good in
+            subst (HasFault entries) (sym replayed.is_error) (of_replay entries replayed.cause (subst (λ (l : List LogEntryValue). IsReplayError l replayed.cause) read replayed.is_cause))
       ]
 ]

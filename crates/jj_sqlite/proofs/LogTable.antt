@@ -1,18 +1,18 @@
 -- The effect of the three statements of a log on the rows of its table.
-use Rattle.std.proofs.Common.{◌≡◌, ◌∙◌, ◌⊎◌, inl, inr, ℕ, pos, negsuc, List, [], ◌∷◌, ◌++◌, append-nil, map, codes, Bool, true, false, cond, not, ◌&&◌, ◌==◌, if◌then◌else◌, length, slice_index_or, Some, None, Option, Ok, Err, Result, IfOk, OnOk, IsTrue, refl, sym, ap, subst, subst₂}
-use Rattle.std.specs.List.{AllZip, flat_map}
-use Rattle.std.proofs.lemmas.List.{map-append}
+use Rattle.std.proofs.Common.{◌≡◌, ◌∙◌, ◌⊎◌, inl, inr, ℕ, zero, suc, ◌+◌, ◌<◌, pos, negsuc, List, [], ◌∷◌, ◌++◌, append-nil, map, take, codes, Bool, true, false, cond, ◌==◌, if◌then◌else◌, length, slice_index_or, Some, None, Option, Ok, Err, Result, IfOk, OnOk, IsTrue, refl, sym, ap, ap₂, subst, subst₂, arith}
+use Rattle.std.specs.Prelude.{All, Contains}
+use Rattle.std.specs.List.{AllByRecursion, AllZip, flat_map}
 use Rattle.std.specs.List.Sorted.{IsPermutation}
-use Rattle.std.specs.declared.cmp.Ordering.{Ordering}
-use Rattle.std.specs.declared.cmp.Ordering.TheVariants.{Less, Equal, Greater}
+use Rattle.std.specs.declared.cmp.Ordering.TheVariants.{Less}
 use Rattle.std.proofs.lemmas.Bool.{cases_Bool}
-use Rattle.std.proofs.lemmas.List.Sorted.{IsPermutation-refl, IsPermutation-sym, IsPermutation-trans, IsPermutation-cons, IsPermutation-middle, IsPermutation-map, IsPermutation-to_front, IsPermutation-append_left}
+use Rattle.std.proofs.lemmas.List.Sorted.{All-permutation, IsPermutation-map}
+use Rattle.std.proofs.lemmas.List.Elements.{recursion_from_All}
 use Rattle.sqlite.specs.declared.types.Value.{Value}
 use Rattle.sqlite.specs.declared.types.Value.TheVariants.{Null, Int, Real, Text, Blob}
 use Rattle.sqlite.specs.Order.{Row, column, value_cmp}
 use Rattle.sqlite.specs.Term.{Term, lit, col}
 use Rattle.sqlite.specs.Ops.{unary}
-use Rattle.sqlite.specs.Query.{Query, inner, end, IsAnswer, output, Output}
+use Rattle.sqlite.specs.Query.{Query, inner, end, IsAnswer, output, output_cmp, Output}
 use Rattle.sqlite.specs.Program.{overlay}
 use Rattle.sqlite.specs.Schema.{Schema}
 use Rattle.sqlite.specs.Kind.TheVariants.{Integer}
@@ -21,14 +21,17 @@ use Rattle.sqlite.specs.Collation.TheVariants.{Binary}
 use Rattle.sqlite.specs.Command.{Command}
 use Rattle.sqlite.specs.Command.TheVariants.{Select, Insert, InsertOr, Update, Delete, CreateTable, CreateIndex, DropTable, DropIndex, Begin, Commit as Commits, Rollback, Savepoint, Release, RollbackTo, Nothing, CreateView, DropView, Rows}
 use Rattle.sqlite.specs.Compile.{table_defined_by}
-use Rattle.sqlite.specs.Edit.{edit_of, is_taken, next_rowid, put_all, are_fresh}
+use Rattle.sqlite.specs.Edit.{edit_of, put_all}
 use Rattle.sqlite.specs.Cast.{cast}
 use Rattle.sqlite.specs.Rowids.TheVariants.{Chosen}
 use Rattle.sqlite.specs.Change.{created, next_tree}
 use Rattle.sqlite.specs.Does.{Tally, Does, lacks_sequence}
 use Rattle.sqlite.specs.Rows.{Written}
 use Rattle.sqlite.specs.Tree.{Trees, rowid, put_row}
+use Rattle.sqlite_keyed.proofs.SortLemmas.{sorted_unique}
+use Rattle.sqlite_sql.proofs.QueryLemmas.{output_cmp_total}
 use Rattle.sqlite_tied.specs.Compute.{everything}
+use Rattle.sqlite_trees.specs.Tree.{IsAscending}
 use Rattle.sqlite.specs.declared.error.Error.{Error}
 use Rattle.sqlite.specs.Listing.{understood, reads_listing}
 use Rattle.sqlite.specs.Effect.{Database, IsDatabase}
@@ -39,13 +42,14 @@ use Rattle.sqlite.proofs.Callers.{IsPlain, command_of, statement_of, runs_as, re
 use Rattle.jj_mirror.specs.Entries.{LogEntryValue, kind_name}
 use Rattle.jj_mirror.specs.declared.object_log.ObjectKind.{ObjectKind}
 use Rattle.jj_mirror.specs.declared.object_log.ObjectKind.TheVariants.{File, Symlink, Copy, Tree, Commit}
-use Rattle.jj_sqlite.specs.Tables.{log_table, log_schema, create_statement, insert_statement, select_statement, entry_row, logged_columns, HasEntries, IsNewOrHas}
+use Rattle.jj_sqlite.specs.Tables.{log_table, log_schema, create_statement, insert_statement, select_statement, entry_row, log_row, log_rows, logged_columns, rows_after, HasEntries, HasOnlyRowsOf, IsNewOrHas, ShowsEntries}
 use Rattle.jj_sqlite.specs.Crashes.{HasLog}
-use Rattle.jj_sqlite.specs.Rows.{IsEntryRow, IsGoodRow}
+use Rattle.jj_sqlite.specs.Rows.{AreNumbered, AreNumberedAfter, IsEntryRow, IsGoodRow}
+use Rattle.jj_sqlite.proofs.RowNumbers.{ascend, more_rows, new_row}
 
 -- ---- the commands that the statements are, by computation
 
-abbrev terms : List Term
+abbrev pub terms : List Term
 terms = lit Null ∷ lit Null ∷ col 0 0 ∷ col 0 1 ∷ col 0 2 ∷ []
 
 abbrev query : Query
@@ -53,7 +57,7 @@ query = record {
   from = inner 0 end;
   filter = [];
   group = None;
-  project = col 1 2 ∷ col 1 3 ∷ col 1 4 ∷ [];
+  project = col 1 0 ∷ col 1 2 ∷ col 1 3 ∷ col 1 4 ∷ [];
   distinct = false;
   collations = [];
   order = (col 1 0, record { collation = Binary; descending = false }) ∷ [];
@@ -80,15 +84,15 @@ again_plain : IsPlain (understood log_schema create_statement)
 unfolding understood everything
 again_plain = (refl, refl)
 
-insert_is : command_of (understood log_schema insert_statement) ≡ Insert 0 (Values terms 5)
+pub insert_is : command_of (understood log_schema insert_statement) ≡ Insert 0 (Values terms 5)
 unfolding understood everything
 insert_is = refl
 
-insert_plain : IsPlain (understood log_schema insert_statement)
+pub insert_plain : IsPlain (understood log_schema insert_statement)
 unfolding understood everything
 insert_plain = (refl, refl)
 
-select_is : (command_of (understood log_schema select_statement) ≡ Select (record { lets = []; body = query }) (codes "kind" ∷ codes "id" ∷ codes "bytes" ∷ [])) × (reads_listing log_schema select_statement ≡ false)
+select_is : (command_of (understood log_schema select_statement) ≡ Select (record { lets = []; body = query }) (codes "seq" ∷ codes "kind" ∷ codes "id" ∷ codes "bytes" ∷ [])) × (reads_listing log_schema select_statement ≡ false)
 unfolding understood everything
 select_is = (refl, refl)
 
@@ -137,26 +141,6 @@ shown_open sql params old new rows h = showed_open old new sql h.0 (timed params
 
 -- ---- a new row
 
--- where no row has the rowid, it is added
-added : (new : Row) (rows : List Row) → is_taken rows new ≡ false → IsPermutation (put_row new rows) (new ∷ rows)
-added new [] fresh = IsPermutation-refl (new ∷ [])
-added new (r ∷ rows) fresh = go (value_cmp (rowid r) (rowid new)) refl (λ apart. added new rows apart)
-  where
-    go : (o : Ordering) → value_cmp (rowid r) (rowid new) ≡ o → (is_taken rows new ≡ false → IsPermutation (put_row new rows) (new ∷ rows)) → IsPermutation (put_row new (r ∷ rows)) (new ∷ r ∷ rows)
-    go Less is later = rw is (IsPermutation-trans (r ∷ put_row new rows) (r ∷ new ∷ rows) (new ∷ r ∷ rows) (IsPermutation-cons r (put_row new rows) (new ∷ rows) (later (rw is at fresh))) (IsPermutation-middle (r ∷ []) new rows))
-    go Equal is later = absurd (let e = rw is at fresh in cc)
-    go Greater is later = rw is (IsPermutation-refl (new ∷ r ∷ rows))
-
--- its columns are beside those of the others
-more_rows : (new : Row) (rows shown : List Row) → is_taken rows new ≡ false → IsPermutation (map logged_columns rows) shown
-    → IsPermutation (map logged_columns (put_row new rows)) (shown ++ logged_columns new ∷ [])
-more_rows new rows shown fresh same =
-    let put = IsPermutation-map logged_columns (put_row new rows) (new ∷ rows) (added new rows fresh) in
-    let last = IsPermutation-sym (map logged_columns rows ++ logged_columns new ∷ []) (logged_columns new ∷ map logged_columns rows) (IsPermutation-to_front (map logged_columns rows) (logged_columns new)) in
-    let all = IsPermutation-append_left (logged_columns new ∷ []) (map logged_columns rows) shown same in
-    IsPermutation-trans (map logged_columns (put_row new rows)) (logged_columns new ∷ map logged_columns rows) (shown ++ logged_columns new ∷ []) put
-    (IsPermutation-trans (logged_columns new ∷ map logged_columns rows) (map logged_columns rows ++ logged_columns new ∷ []) (shown ++ logged_columns new ∷ []) last all)
-
 either : (b : Bool) (x : Value) → cond b x x ≡ x
 either true x = refl
 either false x = refl
@@ -171,7 +155,7 @@ logged s entries has sound =
     let same : s.now.trees ≡ s.committed.trees = ap (λ (d : Database). d.trees) (sym has.committed) in
     record {
       sound = subst (λ (d : Trees). IsSound log_schema d) same (subst (λ k. IsSound k s.now.trees) has.schema sound);
-      rows = subst (λ (d : Trees). IsPermutation (map logged_columns (d 0)) (map entry_row entries)) same has.rows;
+      rows = subst (λ (d : Trees). map logged_columns (d 0) ≡ log_rows entries) same has.rows;
     }
 
 -- a part of a statement that ended with a value did not stop on the way
@@ -182,19 +166,16 @@ went (inr on) = on
 same_value : {B E : Type 0} {a b : B} → ◌≡◌ {A = Result B E} (Ok a) (Ok b) → a ≡ b
 same_value e = cc
 
-abbrev new_row : List Row → LogEntryValue → Row
-new_row rows entry = Int (next_rowid rows) ∷ Null ∷ entry_row entry
-
 -- an insertion makes the rows those of one more entry
-made : (old : State) (entry : LogEntryValue) (tally : Tally) (after : Database) (entries : List LogEntryValue) → HasEntries old entries
+pub made : (old : State) (entry : LogEntryValue) (tally : Tally) (after : Database) (entries : List LogEntryValue) → ShowsEntries old entries
     → Does old.step_limit (mode_of old) (entry_row entry) old.now (statement_of insert_statement (understood log_schema insert_statement)) None (Insert 0 (Values terms 5)) (Ok (tally, after))
-    → (after.schema ≡ log_schema) × IsPermutation (map logged_columns (after.trees 0)) (map entry_row (entries ++ entry ∷ []))
+    → (after.schema ≡ log_schema) × (map logged_columns (after.trees 0) ≡ log_rows (entries ++ entry ∷ []))
 made old entry tally after entries has does =
     let params = entry_row entry in
     let db = old.now.trees in
     let command = Insert 0 (Values terms 5) in
     let text = statement_of insert_statement (understood log_schema insert_statement) in
-    let done = went (subst (λ s. Does old.step_limit (mode_of old) params (record old.now { schema = s }) text None command (Ok (tally, after))) has.schema does) in
+    let done = went (subst (λ s. Does old.step_limit (mode_of old) params (record old.now { schema = s }) text None command (Ok (tally, after))) has.0 does) in
     let now = ap (λ (p : Tally × Database). p.1) (same_value (went (went done.2).2).2) in
     let given = went done.1 in
     let written = went (went given.2).2 in
@@ -204,15 +185,7 @@ made old entry tally after entries has does =
     let n = new_row (db 0) entry in
     let news : (edit_of db log_table [] Chosen 0 given.0).news ≡ n ∷ [] = ap (λ all. (edit_of db log_table [] Chosen 0 all).news) given.1.1 ∙ rw cast_null refl in
     let table : after.trees 0 ≡ put_row n (db 0) = ap (λ (d : Database). d.trees 0) now ∙ ap (λ (t : Trees). t 0) trees ∙ applied.rows ∙ ap (λ all. put_all (db 0) all) news in
-    let fresh : is_taken (db 0) n ≡ false = apart (is_taken (db 0) n) (subst (λ all. are_fresh (db 0) all ≡ true) news applied.fresh) in
-    let all = more_rows n (db 0) (map entry_row entries) fresh has.rows in (
-      ap (λ (d : Database). d.schema) now,
-      subst₂ (λ xs ys. IsPermutation (map logged_columns xs) ys) (sym table) (sym (map-append entry_row entries (entry ∷ []))) all,
-    )
-  where
-    apart : (b : Bool) → (not b && true) ≡ true → b ≡ false
-    apart true is = absurd cc
-    apart false is = refl
+    (ap (λ (d : Database). d.schema) now, ap (map logged_columns) table ∙ more_rows (db 0) entries entry has.1)
 
 abbrev inserted_by : (old new : State) (entry : LogEntryValue) (count : ℕ) (entries : List LogEntryValue) → HasEntries old entries → Executes insert_statement (entry_row entry) old new (Ok count)
     → Writes old new None (Insert 0 (Values terms 5)) (statement_of insert_statement (understood log_schema insert_statement)) (entry_row entry) count
@@ -223,7 +196,7 @@ inserted : (old new : State) (entry : LogEntryValue) (count : ℕ) (entries : Li
     → HasEntries new (entries ++ entry ∷ [])
 inserted old new entry count entries has h =
     let w = inserted_by old new entry count entries has h in
-    let rows = made old entry w.tally new.now entries has w.changed in
+    let rows = made old entry w.tally new.now entries (has.schema, has.rows) w.changed in
     record {
       schema = rows.0;
       rows = rows.1;
@@ -255,10 +228,10 @@ committed_by s entry entries db has h =
         | inr release ↦ absurd (let e = release.2 in cc)
       ]
       | inr write ↦
-          let rows = made s entry write.1 write.2 entries has write.3 in
+          let rows = made s entry write.1 write.2 entries (has.schema, has.rows) write.3 in
           record {
             sound = subst (λ (d : Trees). IsSound log_schema d) (sym write.5) (subst (λ k. IsSound k write.2.trees) rows.0 write.4);
-            rows = subst (λ (d : Trees). IsPermutation (map logged_columns (d 0)) (map entry_row (entries ++ entry ∷ []))) (sym write.5) rows.1;
+            rows = subst (λ (d : Trees). map logged_columns (d 0) ≡ log_rows (entries ++ entry ∷ [])) (sym write.5) rows.1;
           }
     ]
 
@@ -271,24 +244,24 @@ inserts old new entry count entries has h live = inserted old new entry count en
 pub unchanged : (old new : State) (entries : List LogEntryValue) → HasEntries old entries → IsUnchanged old new → HasEntries new entries
 unchanged old new entries has same = record {
   schema = ap (λ (d : Database). d.schema) same.0.now_is ∙ has.schema;
-  rows = subst (λ (d : Database). IsPermutation (map logged_columns (d.trees 0)) (map entry_row entries)) (sym same.0.now_is) has.rows;
+  rows = subst (λ (d : Database). map logged_columns (d.trees 0) ≡ log_rows entries) (sym same.0.now_is) has.rows;
   committed = same.0.committed_is ∙ has.committed ∙ sym same.0.now_is;
   autocommit = same.0.mode ∙ has.autocommit;
 }
 
-rolled_back : (old new : State) (entries : List LogEntryValue) → HasEntries old entries → IsRolledBack old new → IsTrue new.is_open → HasEntries new entries
+pub rolled_back : (old new : State) (entries : List LogEntryValue) → HasEntries old entries → IsRolledBack old new → IsTrue new.is_open → HasEntries new entries
 rolled_back old new entries has back live =
     let both = back.undone live in
     let now = both.0 ∙ has.committed in
     record {
       schema = ap (λ (d : Database). d.schema) now ∙ has.schema;
-      rows = subst (λ (d : Database). IsPermutation (map logged_columns (d.trees 0)) (map entry_row entries)) (sym now) has.rows;
+      rows = subst (λ (d : Database). map logged_columns (d.trees 0) ≡ log_rows entries) (sym now) has.rows;
       committed = both.1 ∙ sym both.0;
       autocommit = back.autocommit;
     }
 
 -- a failed statement changed nothing, or was rolled back
-failed : (sql : List ℕ) (params : Row) (old new : State) (e : Error) → Executes sql params old new (Err e) → IsUnchanged old new ⊎ IsRolledBack old new
+pub failed : (sql : List ℕ) (params : Row) (old new : State) (e : Error) → Executes sql params old new (Err e) → IsUnchanged old new ⊎ IsRolledBack old new
 unfolding ExecutesIn IsNotRun
 failed sql params old new e (inl (inl not_run)) = inl not_run.1
 failed sql params old new e (inl (inr fails)) = inr fails.3
@@ -299,6 +272,25 @@ failed sql params old new e (inr ran) = elim (cases_Bool (shows_rows false ran.0
     | inr fails ↦ inr fails.3
   ]
 ]
+
+pub not_ran : (sql : List ℕ) (params : Row) (old new : State) (e : Error) → IsNotRun old new sql params e → IsUnchanged old new ⊎ IsRolledBack old new
+unfolding IsNotRun
+not_ran sql params old new e (inl not_run) = inl not_run.1
+not_ran sql params old new e (inr fails) = inr fails.3
+
+-- a connection that shows the same as one that shows the same
+pub twice : (old same new : State) → IsUnchanged old same → IsUnchanged same new → IsUnchanged old new
+twice old same new a b = (
+  record {
+    was_open = a.0.was_open;
+    is_open = b.0.is_open;
+    now_is = b.0.now_is ∙ a.0.now_is;
+    committed_is = b.0.committed_is ∙ a.0.committed_is;
+    mode = b.0.mode ∙ a.0.mode;
+  },
+  record { changes = b.1.changes ∙ a.1.changes; last_rowid = b.1.last_rowid ∙ a.1.last_rowid },
+  b.2 ∙ a.2,
+)
 
 pub keeps : (sql : List ℕ) (params : Row) (old new : State) (e : Error) (entries : List LogEntryValue) → (IsTrue old.is_open → HasEntries old entries) → Executes sql params old new (Err e)
     → IsTrue new.is_open → HasEntries new entries
@@ -329,8 +321,8 @@ created_made old tally after has does =
     let now : after ≡ first.0 = ap (λ (p : Tally × Database). p.1) (same_value all.2) ∙ same_value (rw plain at first.2) in
     (ap (λ (d : Database). d.schema) now ∙ schema, ap (λ (d : Database). d.trees 0) now ∙ subst (λ s. first.0.trees (next_tree s) ≡ []) has made.empty)
 
-no_rows_yet : (rows : List Row) (entries : List LogEntryValue) → rows ≡ [] → entries ≡ [] → IsPermutation (map logged_columns rows) (map entry_row entries)
-no_rows_yet rows entries none empty = subst₂ (λ (xs : List Row) (ys : List LogEntryValue). IsPermutation (map logged_columns xs) (map entry_row ys)) (sym none) (sym empty) (IsPermutation-refl [])
+no_rows_yet : (rows : List Row) (entries : List LogEntryValue) → rows ≡ [] → entries ≡ [] → map logged_columns rows ≡ log_rows entries
+no_rows_yet rows entries none empty = ap (map logged_columns) none ∙ sym (ap log_rows empty)
 
 created_table : (old new : State) (count : ℕ) (entries : List LogEntryValue) → IsNewOrHas old entries → Executes create_statement [] old new (Ok count) → HasEntries new entries
 created_table old new count entries (inl has) h =
@@ -396,6 +388,19 @@ pub creates : (old new : State) (count : ℕ) (entries : List LogEntryValue) →
     → HasEntries new entries
 creates old new count entries had h live = created_table old new count entries (had (was_open create_statement [] old new count h live)) h
 
+-- a connection that shows the same has only rows of the same entries
+still_only : (old new : State) (entries : List LogEntryValue) → HasOnlyRowsOf old entries → IsUnchanged old new → HasOnlyRowsOf new entries
+still_only old new entries has same = (
+  ap (λ (d : Database). d.schema) same.0.now_is ∙ has.0,
+  subst (λ (d : Database). All (Contains (log_rows entries)) (map logged_columns (d.trees 0))) (sym same.0.now_is) has.1,
+)
+
+-- the table is there, and stays as it is
+pub only_rows_stay : (old same new : State) (count : ℕ) (entries : List LogEntryValue) → HasOnlyRowsOf old entries → IsUnchanged old same → Executes create_statement [] same new (Ok count) → HasOnlyRowsOf new entries
+only_rows_stay old same new count entries has unchanged h =
+    let before = still_only old same entries has unchanged in
+    still_only same new entries before (runs_as create_statement [] same new log_schema before.0 Nothing again_is again_plain count h).0
+
 -- ---- the rows are read
 
 abbrev shown_output : Row → Output
@@ -415,6 +420,22 @@ shows_all db shown a =
     let kept : a.kept ≡ map shown_output (db 0) = a.distinct ∙ ap (map (output query)) a.grouped ∙ outputs (db 0) in
     let all : IsPermutation (map shown_output (db 0)) a.ordered = subst (λ k. IsPermutation k a.ordered) kept a.same in
     subst₂ (λ xs ys. IsPermutation xs ys) (shows (db 0)) (sym a.shown) (IsPermutation-map (λ (o : Output). o.1) (map shown_output (db 0)) a.ordered all)
+
+outputs_below : (r : Row) (rows : List Row) → AllByRecursion (λ b. value_cmp (rowid r) (rowid b) ≡ Less) rows → AllByRecursion (λ o. output_cmp query (shown_output r) o ≡ Less) (map shown_output rows)
+outputs_below r [] all = tt
+outputs_below r (b ∷ rows) all = (rw all.0 refl, outputs_below r rows all.1)
+
+outputs_ascend : (rows : List Row) → IsAscending (λ a b. value_cmp (rowid a) (rowid b) ≡ Less) rows → IsAscending (λ a b. output_cmp query a b ≡ Less) (map shown_output rows)
+outputs_ascend [] up = tt
+outputs_ascend (r ∷ rows) up = (outputs_below r rows up.0, outputs_ascend rows up.1)
+
+-- numbered rows are shown in their order
+shows_in_order : (db : Trees) (entries : List LogEntryValue) (shown : List Row) → map logged_columns (db 0) ≡ log_rows entries → IsAnswer query (overlay db []) [] shown → shown ≡ log_rows entries
+shows_in_order db entries shown is a =
+    let kept : a.kept ≡ map shown_output (db 0) = a.distinct ∙ ap (map (output query)) a.grouped ∙ outputs (db 0) in
+    let all : IsPermutation (map shown_output (db 0)) a.ordered = subst (λ k. IsPermutation k a.ordered) kept a.same in
+    let same : a.ordered ≡ map shown_output (db 0) = sorted_unique (output_cmp query) (output_cmp_total query) (map shown_output (db 0)) a.ordered (outputs_ascend (db 0) (ascend (db 0) entries 0 is)) all a.sorted in
+    a.shown ∙ ap (map (λ (o : Output). o.1)) same ∙ shows (db 0) ∙ is
 
 shown_unchanged : (sql : List ℕ) (params : Row) (old new : State) (schema : Schema) → old.now.schema ≡ schema → IsPlain (understood schema sql) → (rows : List Row) → Shown sql params old new rows → IsUnchanged old new
 unfolding Shown
@@ -436,7 +457,7 @@ bytes_of (Text t) = t
 bytes_of (Blob b) = b
 
 abbrev pub entry_in : Row → LogEntryValue
-entry_in row = record { kind = kind_of (bytes_of (column row 0)); id = bytes_of (column row 1); bytes = bytes_of (column row 2) }
+entry_in row = record { kind = kind_of (bytes_of (column row 1)); id = bytes_of (column row 2); bytes = bytes_of (column row 3) }
 
 kind_is : (kind : ObjectKind) → kind_of (kind_name kind) ≡ kind
 kind_is File = refl
@@ -458,9 +479,9 @@ entries_are [] (e ∷ entries) all = absurd all
 entries_are (r ∷ rows) [] all = absurd all
 entries_are (r ∷ rows) (e ∷ entries) all = λ i. entry_is r e all.0.0 i ∷ entries_are rows entries all.1 i
 
-same_entries : (entries : List LogEntryValue) → map entry_in (map entry_row entries) ≡ entries
-same_entries [] = refl
-same_entries (e ∷ entries) = λ i. entry_is (entry_row e) e (refl, refl, refl) i ∷ same_entries entries i
+pub same_entries : (entries : List LogEntryValue) (count : ℕ) → map entry_in (rows_after count entries) ≡ entries
+same_entries [] count = refl
+same_entries (e ∷ entries) count = λ i. entry_is (log_row (count + 1) e) e (refl, refl, refl) i ∷ same_entries entries (count + 1) i
 
 pub keeps_reading : (old new : State) (rows : List Row) (entries : List LogEntryValue) → HasEntries old entries → Shown select_statement [] old new rows → HasEntries new entries
 keeps_reading old new rows entries has h = unchanged old new entries has (shown_unchanged select_statement [] old new log_schema has.schema select_plain rows h)
@@ -469,29 +490,90 @@ keeps_reading old new rows entries has h = unchanged old new entries has (shown_
 pub reading_commits_nothing : (s : State) (entries : List LogEntryValue) (db : Trees) → HasEntries s entries → ¬ CommitsShowing select_statement [] s db
 reading_commits_nothing s entries db has = never_commits select_statement [] s db (subst (λ k. IsPlain (understood k select_statement)) (sym has.schema) select_plain)
 
--- the rows that are shown are those of the table
-pub shown_rows : (old new : State) (rows : List Row) (entries : List LogEntryValue) → HasEntries old entries → Shown select_statement [] old new rows → IsPermutation rows (map entry_row entries)
+-- the rows that are shown are those of the table, in their order
+pub shown_rows : (old new : State) (rows : List Row) (entries : List LogEntryValue) → HasEntries old entries → Shown select_statement [] old new rows → rows ≡ log_rows entries
 shown_rows old new rows entries has h =
     let answer = (reads_as select_statement [] old new log_schema has.schema _ select_is.0 select_plain select_is.1 rows h).answer in
-    let shown = shows_all old.now.trees rows (answer Null) in
-    IsPermutation-trans rows (map logged_columns (old.now.trees 0)) (map entry_row entries) (IsPermutation-sym (map logged_columns (old.now.trees 0)) rows shown) has.rows
-
--- the entries of the rows that are shown are those of the table
-pub shown_entries : (old new : State) (rows : List Row) (entries : List LogEntryValue) → HasEntries old entries → Shown select_statement [] old new rows → IsPermutation (map entry_in rows) entries
-shown_entries old new rows entries has h =
-    subst (λ (l : List LogEntryValue). IsPermutation (map entry_in rows) l) (same_entries entries) (IsPermutation-map entry_in rows (map entry_row entries) (shown_rows old new rows entries has h))
+    shows_in_order old.now.trees entries rows has.rows (answer Null)
 
 -- the entries that are read are those of the table
-pub reads : (old new : State) (rows : List Row) (read entries : List LogEntryValue) → HasEntries old entries → Shown select_statement [] old new rows → AllZip IsGoodRow rows read
-    → IsPermutation read entries
+pub reads : (old new : State) (rows : List Row) (read entries : List LogEntryValue) → HasEntries old entries → Shown select_statement [] old new rows → AllZip IsGoodRow rows read → read ≡ entries
 reads old new rows read entries has h all =
-    subst (λ (l : List LogEntryValue). IsPermutation l entries) (entries_are rows read all) (shown_entries old new rows entries has h)
+    sym (entries_are rows read all) ∙ ap (map entry_in) (shown_rows old new rows entries has h) ∙ same_entries entries 0
+
+-- ---- rows of a log of which some were lost
+
+abbrev IsAmong : List Row → Row → Type 0
+IsAmong [] row = ⊥
+IsAmong (r ∷ rows) row = (row ≡ r) ⊎ IsAmong rows row
+
+among : (rows : List Row) (row : Row) → Contains rows row → IsAmong rows row
+among [] row has = absurd (omega (arith, has.1))
+among (r ∷ rows) row (zero, within, same) = inl (sym same)
+among (r ∷ rows) row (suc k, within, same) = inr (among rows row (k, omega (arith, within), same))
+
+abbrev number_in : Value → ℕ
+number_in (Int (pos n)) = n
+number_in _ = 0
+
+-- a row of these entries is numbered above the count
+numbered_above : (entries : List LogEntryValue) (count : ℕ) (row : Row) → IsAmong (rows_after count entries) row → count < number_in (column row 0)
+numbered_above [] count row has = absurd has
+numbered_above (e ∷ entries) count row (inl is) = rw is (omega arith)
+numbered_above (e ∷ entries) count row (inr has) = let rest = numbered_above entries (count + 1) row has in omega (arith, rest)
+
+-- rows that are numbered above the first are among the others
+without_first : (e : LogEntryValue) (entries : List LogEntryValue) (count low : ℕ) (rows : List Row) → count < low → AllByRecursion (IsAmong (rows_after count (e ∷ entries))) rows → AreNumberedAfter low rows
+    → AllByRecursion (IsAmong (rows_after (count + 1) entries)) rows
+without_first e entries count low [] h all numbered = tt
+without_first e entries count low (row ∷ rows) h all numbered = (
+  elim all.0 [
+    | inl is ↦ absurd (let same : low + 1 ≡ count + 1 = ap number_in (sym numbered.0 ∙ ap (λ (r : Row). column r 0) is) in omega (arith, same))
+    | inr rest ↦ rest
+  ],
+  without_first e entries count (low + 1) rows (omega arith) all.1 numbered.1,
+)
+
+prefix : (rows : List Row) (read entries : List LogEntryValue) (count : ℕ) → AllZip IsGoodRow rows read → AreNumberedAfter count rows → AllByRecursion (IsAmong (rows_after count entries)) rows
+    → read ≡ take (length read) entries
+prefix [] [] entries count good numbered all = refl
+prefix [] (x ∷ read) entries count good numbered all = absurd good
+prefix (row ∷ rows) [] entries count good numbered all = absurd good
+prefix (row ∷ rows) (x ∷ read) [] count good numbered all = absurd all.0
+prefix (row ∷ rows) (x ∷ read) (e ∷ entries) count good numbered all = elim all.0 [
+  | inl is ↦
+      let first : x ≡ e = sym (entry_is row x good.0.0) ∙ ap entry_in is ∙ entry_is (log_row (count + 1) e) e (refl, refl, refl) in
+      ap₂ (λ y ys. y ∷ ys) first (prefix rows read entries (count + 1) good.1 numbered.1 (without_first e entries count (count + 1) rows (omega arith) all.1 numbered.1))
+  | inr later ↦ absurd (
+      let above = numbered_above entries (count + 1) row later in
+      let same : number_in (column row 0) ≡ count + 1 = ap number_in numbered.0 in
+      omega (arith, above, same))
+]
+
+all_among : (rows others : List Row) → All (Contains others) rows → AllByRecursion (IsAmong others) rows
+all_among rows others all = go rows (recursion_from_All (Contains others) rows all)
+  where
+    go : (rows : List Row) → AllByRecursion (Contains others) rows → AllByRecursion (IsAmong others) rows
+    go [] all = tt
+    go (r ∷ rows) all = (among others r all.0, go rows all.1)
+
+-- the entries that are read are the first of those of which some rows were lost
+pub reads_first : (old new : State) (rows : List Row) (read entries : List LogEntryValue) → HasOnlyRowsOf old entries → Shown select_statement [] old new rows → AllZip IsGoodRow rows read → AreNumbered rows
+    → read ≡ take (length read) entries
+reads_first old new rows read entries has h good numbered =
+    let answer = (reads_as select_statement [] old new log_schema has.0 _ select_is.0 select_plain select_is.1 rows h).answer in
+    let all = All-permutation (Contains (log_rows entries)) (map logged_columns (old.now.trees 0)) rows (shows_all old.now.trees rows (answer Null)) has.1 in
+    prefix rows read entries 0 good numbered (all_among rows (log_rows entries) all)
 
 -- ---- results
 
 pub if_ok : {T E : Type 0} {P Q : T → Type 0} → ((value : T) → P value → Q value) → (r : Result T E) → IfOk r P → IfOk r Q
 if_ok f (Ok value) holds = f value holds
 if_ok f (Err e) holds = tt
+
+pub if_ok_with : {T E P : Type 0} {Q R : T → Type 0} → ((value : T) → Q value → P → R value) → (r : Result T E) → IfOk r Q → OnOk r P → IfOk r R
+if_ok_with f (Ok value) holds also = f value holds also
+if_ok_with f (Err e) holds also = tt
 
 pub on_ok : {T E : Type 0} {P : Type 0} → (r : Result T E) → P → OnOk r P
 on_ok (Ok value) holds = holds

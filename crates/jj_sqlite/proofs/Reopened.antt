@@ -1,7 +1,6 @@
 -- The entries of a log in a database that is closed and opened again: its rows list one schema.
 use Rattle.std.proofs.Common.{◌≡◌, ◌∙◌, ◌++◌, inl, inr, ℕ, ◌+◌, pos, List, [], ◌∷◌, Result, Ok, IsTrue, map, refl, sym, ap, ap₂, subst, arith}
 use Rattle.std.specs.List.{AllZip}
-use Rattle.std.specs.List.Sorted.{IsPermutation}
 use Rattle.sqlite_catalog.specs.Listing.{IsSound, IsTableRow, IsIndexRow, IsViewRow, DefinesTable}
 use Rattle.sqlite.specs.declared.types.Value.TheVariants.{Int, Text}
 use Rattle.sqlite.specs.Order.{Row}
@@ -14,7 +13,7 @@ use Rattle.jj_mirror.specs.Entries.{LogEntryValue}
 use Rattle.jj_sqlite.specs.Crashes.{HasLog, HasLogAfterCrash}
 use Rattle.jj_sqlite.specs.Inserts.{HasEntriesAfterCrash}
 use Rattle.jj_sqlite.proofs.LogTable.{logged}
-use Rattle.jj_sqlite.specs.Tables.{HasEntries, entry_row, log_schema, logged_columns}
+use Rattle.jj_sqlite.specs.Tables.{HasEntries, log_rows, log_schema, logged_columns}
 
 texts_equal : (x y : List ℕ) → Text x ≡ Text y → x ≡ y
 texts_equal x y e = cc
@@ -66,7 +65,7 @@ found_again new entries db has opens live same =
     let schema : new.committed.schema ≡ log_schema = schema_is_one new.committed.schema new.committed.trees sound (live opens.is_open).1 in
     record {
       schema = ap (λ d. d.schema) opens.clean ∙ schema;
-      rows = subst (λ (d : Trees). IsPermutation (map logged_columns (d 0)) (map entry_row entries)) (sym same ∙ ap (λ d. d.trees) (sym opens.clean)) has.rows;
+      rows = subst (λ (d : Trees). map logged_columns (d 0) ≡ log_rows entries) (sym same ∙ ap (λ d. d.trees) (sym opens.clean)) has.rows;
       committed = sym opens.clean;
       autocommit = opens.autocommit;
     }

@@ -1,9 +1,9 @@
 -- The rows of a log's table, and the entries that are read from them.
--- Cited by contracts of public items: IsGoodRow, IsReadError.
-use Rattle.std.specs.Prelude.{◌≡◌, ◌≢◌, ◌⊎◌, ◌≤◌, ⊤, ℕ, List, length, take, slice_get, Some, IsUtf8}
+-- Cited by contracts of public items: AreNumbered, IsGoodRow, IsReadError.
+use Rattle.std.specs.Prelude.{◌≡◌, ◌≢◌, ◌⊎◌, ◌+◌, ◌≤◌, ⊤, ℕ, pos, List, [], ◌∷◌, length, take, slice_get, Some, IsUtf8}
 use Rattle.std.specs.List.{AllZip}
 use Rattle.sqlite.specs.declared.types.Value.{Value}
-use Rattle.sqlite.specs.declared.types.Value.TheVariants.{Text, Blob}
+use Rattle.sqlite.specs.declared.types.Value.TheVariants.{Int, Text, Blob}
 use Rattle.sqlite.specs.declared.types.FromSqlError.{FromSqlError}
 use Rattle.sqlite.specs.declared.types.FromSqlError.TheVariants.{InvalidType}
 use Rattle.sqlite.specs.declared.error.Error.{Error}
@@ -14,12 +14,12 @@ use Rattle.sqlite.specs.Values.{text_refusal}
 use Rattle.jj_mirror.specs.Entries.{LogEntryValue, digest_of, kind_name}
 use Rattle.jj_mirror.specs.declared.object_log.ObjectKind.{ObjectKind}
 use Rattle.jj_sqlite.specs.declared.error.OpenError.{OpenError}
-use Rattle.jj_sqlite.specs.declared.error.OpenError.TheVariants.{Memory, Sqlite, WrongObject, UnknownKind, Malformed, Backend}
+use Rattle.jj_sqlite.specs.declared.error.OpenError.TheVariants.{Memory, Sqlite, Gap, WrongObject, UnknownKind, Malformed, Backend}
 
 -- the columns of the row are those of the entry
 abbrev pub IsEntryRow : Row → LogEntryValue → Type 0
-IsEntryRow row entry = (column row 0 ≡ Text (kind_name entry.kind))
-    × (column row 1 ≡ Blob entry.id) × (column row 2 ≡ Blob entry.bytes)
+IsEntryRow row entry = (column row 1 ≡ Text (kind_name entry.kind))
+    × (column row 2 ≡ Blob entry.id) × (column row 3 ≡ Blob entry.bytes)
 
 -- the id is the digest of the object
 abbrev pub HasDigest : LogEntryValue → Type 0
@@ -28,6 +28,16 @@ HasDigest entry = digest_of entry.kind entry.bytes ≡ entry.id
 -- the row is that of the entry, whose id is the digest of its object
 abbrev pub IsGoodRow : Row → LogEntryValue → Type 0
 IsGoodRow row entry = IsEntryRow row entry × HasDigest entry
+
+-- the rows are numbered in their order, from one above this number
+abbrev pub AreNumberedAfter : ℕ → List Row → Type 0
+AreNumberedAfter count [] = ⊤
+AreNumberedAfter count (row ∷ rows) =
+    (column row 0 ≡ Int (pos (count + 1))) × AreNumberedAfter (count + 1) rows
+
+-- the rows are numbered in their order, from 1
+abbrev pub AreNumbered : List Row → Type 0
+AreNumbered rows = AreNumberedAfter 0 rows
 
 -- the value is a string in UTF-8
 abbrev pub IsString : Value → Type 0
@@ -47,20 +57,28 @@ IsColumnError IsTyped reason index row e = ((e ≡ InvalidColumnIndex index) × 
 -- is not the digest of the object
 abbrev pub IsRowError : Row → OpenError → Type 0
 IsRowError row Memory = ⊤
-IsRowError row (Sqlite e) = IsColumnError IsString text_refusal 0 row e
-    ⊎ IsColumnError IsBlob (λ _. InvalidType) 1 row e
+IsRowError row (Sqlite e) = IsColumnError IsString text_refusal 1 row e
     ⊎ IsColumnError IsBlob (λ _. InvalidType) 2 row e
+    ⊎ IsColumnError IsBlob (λ _. InvalidType) 3 row e
 IsRowError row (WrongObject kind id) =
     (entry : LogEntryValue) × IsEntryRow row entry × (kind ≡ entry.kind) × (id.items ≡ entry.id)
     × ¬ (HasDigest entry)
-IsRowError row (UnknownKind id) = (name : List ℕ) × (column row 0 ≡ Text name)
-    × (column row 1 ≡ Blob id.items) × ((kind : ObjectKind) → kind_name kind ≢ name)
+IsRowError row (UnknownKind id) = (name : List ℕ) × (column row 1 ≡ Text name)
+    × (column row 2 ≡ Blob id.items) × ((kind : ObjectKind) → kind_name kind ≢ name)
+IsRowError row (Gap count) = ⊥
 IsRowError row (Malformed kind id reason offset) = ⊥
 IsRowError row (Backend error) = ⊥
 
--- e is the error of the first row that has one
+-- e is the error of the row after so many others: it is not numbered next, or has an error
+abbrev pub IsErrorAt : ℕ → Row → OpenError → Type 0
+IsErrorAt count row Memory = ⊤
+IsErrorAt count row (Gap number) = (number ≡ count) × (column row 0 ≢ Int (pos (count + 1)))
+IsErrorAt count row e = IsRowError row e × (column row 0 ≡ Int (pos (count + 1)))
+
+-- e is the error of the first row that has one, after rows of entries that are numbered from 1
 abbrev pub IsReadError : List Row → OpenError → Type 0
 IsReadError rows Memory = ⊤
 IsReadError rows e =
     (index : ℕ) × (row : Row) × (entries : List LogEntryValue) × (slice_get rows index ≡ Some row)
-    × AllZip IsGoodRow (take index rows) entries × IsRowError row e
+    × AllZip IsGoodRow (take index rows) entries × IsErrorAt index row e
+    × AreNumbered (take index rows)

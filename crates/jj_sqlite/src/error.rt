@@ -16,6 +16,11 @@ pub enum OpenError {
     /// not of its type.
     #[error("{0}")]
     Sqlite(sqlite::Error),
+    /// The entry after the first `count` is missing: the next row has another number.
+    #[error("the log ends after entry {count} and was longer; restore a backup")]
+    Gap {
+        count: usize,
+    },
     /// An entry whose id is not the digest of its object.
     #[error("an object of the log is not the one that its id names")]
     WrongObject {

@@ -1,19 +1,22 @@
 //! A log of written objects in a table of an SQLite database.
-ghost use Rattle.std.specs.Prelude.{◌≡◌, ◌⊎◌, ◌++◌, ◌∷◌, [], List, IfOk, IfErr, OnOk, OnErr};
+ghost use Rattle.std.specs.Prelude.{◌≡◌, ◌⊎◌, ◌↔◌, ◌+◌, ◌<◌, ◌^◌, ◌++◌, ◌∷◌, [], pos, List};
+ghost use Rattle.std.specs.Prelude.{length, take};
+ghost use Rattle.std.specs.Prelude.{IsTrue, IfOk, IfErr, OnOk, OnErr};
 ghost use Rattle.std.specs.List.{AllZip};
-ghost use Rattle.std.specs.List.Sorted.{IsPermutation};
 ghost use Rattle.sqlite.specs.Held.{state};
-ghost use Rattle.sqlite.specs.Order.{Row};
+ghost use Rattle.sqlite.specs.declared.types.Value.TheVariants.{Int};
+ghost use Rattle.sqlite.specs.Order.{Row, column};
 ghost use Rattle.sqlite.specs.State.{HasCleanDisk, FailsToQuery, Shown, CommitsShowing, Survives};
 ghost use Rattle.sqlite.specs.Values.{bound};
 ghost use Rattle.jj_mirror.specs.Entries.{LogEntryValue};
 ghost use Rattle.jj_mirror.specs.Logs.{Appends, Keeps};
 ghost use Rattle.jj_sqlite.specs.Tables.{create_statement, insert_statement, select_statement};
-ghost use Rattle.jj_sqlite.specs.Tables.{entry_row};
+ghost use Rattle.jj_sqlite.specs.Tables.{entry_row, HasOnlyRowsOf};
 ghost use Rattle.jj_sqlite.specs.Crashes.{CommitsAsIs, HasLog, RunsAsIs};
 ghost use Rattle.jj_sqlite.specs.Inserts.{ContainsEntries, ConvertsTo, FailsToInsert};
 ghost use Rattle.jj_sqlite.specs.Inserts.{MayFailToInsert, StoresEntries, WasNewOrContains};
-ghost use Rattle.jj_sqlite.specs.Rows.{IsEntryRow, IsGoodRow, IsRowError, IsReadError};
+ghost use Rattle.jj_sqlite.specs.Rows.{AreNumbered, IsEntryRow, IsGoodRow};
+ghost use Rattle.jj_sqlite.specs.Rows.{IsErrorAt, IsRowError, IsReadError};
 ghost use Rattle.jj_sqlite.specs.Opening.{IsCreated, FailsToCreate, FailsToRead};
 
 use crate::error::OpenError;
@@ -26,7 +29,7 @@ use std::alloc::Global;
 
 /// A log in the table `object_log` of a database: a row for each entry, in the order of `seq`.
 pub struct SqliteLog<S: Alter> {
-    conn: Connection<S>,
+    pub(crate) conn: Connection<S>,
 }
 
 impl<S: Alter + Drop> Drop for SqliteLog<S> {
@@ -43,6 +46,10 @@ impl<S: Alter> SqliteLog<S> {
             → IsCreated S.Store conn log.conn) }
         ensures entries { IfOk result (λ log. (entries : List LogEntryValue)
             → WasNewOrContains S.Store conn entries → StoresEntries S.Store log.conn entries) }
+        // Rows of these entries, of which some were lost, stay as they are.
+        ensures damaged { IfOk result (λ log. HasCleanDisk (state S.Store log.conn)
+            → (entries : List LogEntryValue) → HasOnlyRowsOf (state S.Store conn) entries
+            → HasOnlyRowsOf (state S.Store log.conn) entries) }
         // If the disk has returned only what was written to it up to the end of the call, it had at
         // the start.
         ensures clean { IfOk result (λ log. HasCleanDisk (state S.Store log.conn)
@@ -62,17 +69,23 @@ impl<S: Alter> SqliteLog<S> {
         }
     }
 
-    /// Reads the entries. Fails with `Sqlite` if the query fails, at the first row that cannot be
-    /// read (`Sqlite`), whose kind is unknown (`UnknownKind`) or whose id is not the digest of its
+    /// Reads the entries in the order in which they were appended. Fails with `Sqlite` if the query
+    /// fails, at the first row that has not the next number (`Gap`), that cannot be read
+    /// (`Sqlite`), whose kind is unknown (`UnknownKind`) or whose id is not the digest of its
     /// object (`WrongObject`), and with `Memory` if memory runs out.
     pub fn read_entries(&mut self, alloc: Global) -> Result<Vec<LogEntry>, OpenError>
         ensures rows { HasCleanDisk (state S.Store self.new.conn) → IfOk result (λ entries.
-            (rows : List Row) × AllZip IsGoodRow rows entries.items
+            (rows : List Row) × AllZip IsGoodRow rows entries.items × AreNumbered rows
             × Shown select_statement [] (state S.Store self.old.conn) (state S.Store self.new.conn)
             rows) }
         ensures entries { HasCleanDisk (state S.Store self.new.conn) → IfOk result (λ read.
             (entries : List LogEntryValue) → ContainsEntries S.Store self.old.conn entries
-            → IsPermutation read.items entries) }
+            → read.items ≡ entries) }
+        // If rows of these entries were lost, repeated or put in another order, the entries that
+        // are read are the first of them, and none is skipped.
+        ensures damaged { HasCleanDisk (state S.Store self.new.conn) → IfOk result (λ read.
+            (entries : List LogEntryValue) → HasOnlyRowsOf (state S.Store self.old.conn) entries
+            → read.items ≡ take (length read.items) entries) }
         ensures kept { OnOk result (Keeps (StoresEntries S.Store) self.old.conn self.new.conn) }
         ensures clean { HasCleanDisk (state S.Store self.new.conn)
             → HasCleanDisk (state S.Store self.old.conn) }
@@ -93,7 +106,7 @@ impl<S: Alter> SqliteLog<S> {
 }
 
 // Runs a statement. A connection that is shut fails to prepare it, so it commits nothing.
-fn run<S: Alter>(
+pub(crate) fn run<S: Alter>(
     conn: &mut Connection<S>,
     sql: &str,
     params: &[ValueRef<'_>],
@@ -129,7 +142,10 @@ fn select_rows<S: Alter>(conn: &mut Connection<S>) -> Result<Vec<Row>, Error>
     ensures error { HasCleanDisk (state S.Store conn.new) → IfErr result
         (FailsToQuery select_statement [] (state S.Store conn.old) (state S.Store conn.new)) }
 {
-    conn.query_all("SELECT kind, id, bytes FROM object_log ORDER BY seq", &[])
+    conn.query_all(
+        "SELECT seq, kind, id, bytes FROM object_log ORDER BY seq",
+        &[],
+    )
 }
 
 // Returns the entry of a row.
@@ -137,12 +153,22 @@ fn entry_from_row(row: &Row) -> Result<LogEntry, OpenError>
     ensures ok { IfOk result (IsEntryRow row.now) }
     ensures wrong { IfErr result (IsRowError row.now) }
 {
-    let name: String = row.get(0)?;
-    let id: Vec<u8> = row.get(1)?;
-    let bytes: Vec<u8> = row.get(2)?;
+    let name: String = row.get(1)?;
+    let id: Vec<u8> = row.get(2)?;
+    let bytes: Vec<u8> = row.get(3)?;
     match ObjectKind::from_name(name.as_str()) {
         Some(kind) => Ok(LogEntry { kind, id, bytes }),
         None => Err(OpenError::UnknownKind { id }),
+    }
+}
+
+// Returns whether a row has this number.
+fn has_number(row: &Row, seq: usize) -> bool
+    ensures { IsTrue result ↔ (column row.now 0 ≡ Int (pos seq)) }
+{
+    match row.get_ref(0) {
+        Ok(ValueRef::Int(number)) => u64::try_from(number) == Ok(seq as u64),
+        _ => false,
     }
 }
 
@@ -160,22 +186,40 @@ fn checked_entry(row: &Row) -> Result<LogEntry, OpenError>
     }
 }
 
-/// Returns the entries of the rows of a log. Fails at the first row that cannot be read (`Sqlite`),
-/// whose kind is unknown (`UnknownKind`) or whose id is not the digest of its object
-/// (`WrongObject`), and with `Memory` if memory runs out.
-#[tactic(auto, using(crate::proofs::RowErrors::read_error))]
+// Returns the entry of the row after so many others.
+fn next_entry(row: &Row, count: usize) -> Result<LogEntry, OpenError>
+    requires { count < 2 ^ 63 }
+    ensures ok { IfOk result (IsGoodRow row.now) }
+    ensures number { OnOk result (column row.now 0 ≡ Int (pos (count + 1))) }
+    ensures wrong { IfErr result (IsErrorAt count row.now) }
+{
+    if has_number(row, count + 1) {
+        checked_entry(row)
+    } else {
+        Err(OpenError::Gap { count })
+    }
+}
+
+/// Returns the entries of the rows of a log, which are numbered from 1. Fails at the first row that
+/// has not the next number (`Gap`), that cannot be read (`Sqlite`), whose kind is unknown
+/// (`UnknownKind`) or whose id is not the digest of its object (`WrongObject`), and with `Memory`
+/// if memory runs out.
 pub fn entries_from_rows(alloc: Global, rows: &[Row]) -> Result<Vec<LogEntry>, OpenError>
     ensures ok { IfOk result (λ entries. AllZip IsGoodRow rows.now entries.items) }
+    ensures numbered { OnOk result (AreNumbered rows.now) }
     ensures wrong { IfErr result (IsReadError rows.now) }
 {
     let mut entries = Vec::new(alloc);
     for row in rows {
-        entries.push(checked_entry(row)?)?;
+        match next_entry(row, entries.len()) {
+            Ok(entry) => entries.push(entry)?,
+            Err(error) => return Err(error),
+        }
     }
     Ok(entries)
 }
 
-fn insert_entry<S: Alter>(
+pub(crate) fn insert_entry<S: Alter>(
     conn: &mut Connection<S>,
     kind: ObjectKind,
     id: &[u8],
@@ -196,7 +240,7 @@ fn insert_entry<S: Alter>(
 }
 
 // Converts an error of SQLite. The message is empty if memory runs out for it.
-fn convert_error(alloc: Global, error: Error) -> BackendError
+pub(crate) fn convert_error(alloc: Global, error: Error) -> BackendError
     ensures { ConvertsTo error result }
 {
     match error {

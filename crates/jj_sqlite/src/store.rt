@@ -1,5 +1,5 @@
 //! Opening and closing a backend whose objects are stored in an SQLite database.
-ghost use Rattle.std.specs.Prelude.{◌≡◌, ◌⊎◌, IsTrue, List, IfOk, IfErr, OnOk};
+ghost use Rattle.std.specs.Prelude.{◌≡◌, ◌⊎◌, ℕ, IsTrue, List, take, IfOk, IfErr, OnOk};
 ghost use Rattle.sqlite.specs.Files.{over_files};
 ghost use Rattle.sqlite.specs.Held.{state};
 ghost use Rattle.sqlite.specs.State.{HasCleanDisk};
@@ -8,6 +8,7 @@ ghost use Rattle.jj_mirror.specs.Logs.{Keeps};
 ghost use Rattle.jj_replay.specs.Replays.{IsReplay};
 ghost use Rattle.jj_trees.specs.MemoryObjects.{digest_length};
 ghost use Rattle.jj_sqlite.specs.Inserts.{ContainsEntries, StoresEntries, WasNewOrContains};
+ghost use Rattle.jj_sqlite.specs.Tables.{HasOnlyRowsOf};
 ghost use Rattle.jj_sqlite.specs.Opening.{IsOpened, IsOpenError, IsReplayed};
 ghost use Rattle.jj_sqlite.specs.Opening.{FailsToRead, FailsToReplay};
 ghost use Rattle.jj_sqlite.specs.Opening.{sqlite_error};
@@ -29,6 +30,9 @@ fn replay_log<S: Alter>(alloc: Global, log: &mut SqliteLog<S>) -> Result<MemoryB
     ensures entries { HasCleanDisk (state S.Store log.new.conn) → IfOk result (λ backend.
         (entries : List LogEntryValue) → ContainsEntries S.Store log.old.conn entries
         → IsReplay entries backend) }
+    ensures damaged { HasCleanDisk (state S.Store log.new.conn) → IfOk result (λ backend.
+        (entries : List LogEntryValue) → HasOnlyRowsOf (state S.Store log.old.conn) entries
+        → (count : ℕ) × IsReplay (take count entries) backend) }
     ensures whole { IfOk result (λ backend. backend.id_length ≡ digest_length) }
     ensures kept { OnOk result (Keeps (StoresEntries S.Store) log.old.conn log.new.conn) }
     ensures clean { HasCleanDisk (state S.Store log.new.conn)
@@ -67,6 +71,11 @@ pub fn open_store<S: Alter>(
     ensures entries { IfOk result (λ store. HasCleanDisk (state S.Store store.log.conn)
         → (entries : List LogEntryValue) → WasNewOrContains S.Store conn entries
         → IsReplay entries store.backend) }
+    // If rows of these entries were lost, repeated or put in another order, the backend stores the
+    // objects of the first entries, and none is skipped.
+    ensures damaged { IfOk result (λ store. HasCleanDisk (state S.Store store.log.conn)
+        → (entries : List LogEntryValue) → HasOnlyRowsOf (state S.Store conn) entries
+        → (count : ℕ) × IsReplay (take count entries) store.backend) }
     ensures kept { IfOk result (λ store. (entries : List LogEntryValue)
         → WasNewOrContains S.Store conn entries
         → StoresEntries S.Store store.log.conn entries) }

@@ -12,6 +12,11 @@ pub returns-in-Ok-replay_log-clause-entries : goal.returns-in-Ok-replay_log-clau
 returns-in-Ok-replay_log-clause-entries g c =
     rw (c.beside.ensures.backend, c.beside.ensures.log) (λ clean entries had. c.in-Ok-replay_log.ensures.entries clean entries (c.in-Ok.ensures.entries entries had).now)
 
+pub returns-in-Ok-replay_log-clause-damaged : goal.returns-in-Ok-replay_log-clause-damaged
+returns-in-Ok-replay_log-clause-damaged g c =
+    rw (c.beside.ensures.backend, c.beside.ensures.log) (λ clean entries has.
+    c.in-Ok-replay_log.ensures.damaged clean entries (c.in-Ok.ensures.damaged (c.replay_log.ensures.clean clean) entries has))
+
 pub returns-in-Ok-replay_log-clause-kept : goal.returns-in-Ok-replay_log-clause-kept
 returns-in-Ok-replay_log-clause-kept g c =
     rw c.beside.ensures.log (λ entries had. c.in-Ok-replay_log.ensures.kept entries (c.in-Ok.ensures.entries entries had))
