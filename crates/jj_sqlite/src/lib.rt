@@ -2,5 +2,6 @@
 #![tactic(auto)]
 
 pub mod error;
+pub mod files;
 pub mod sqlite_log;
 pub mod store;
