@@ -4,3 +4,9 @@ pub mod Scripts
 pub mod Parts
 pub mod Runs
 pub mod Grouping
+pub mod Numbers
+pub mod Applying
+pub mod PatchText
+pub mod Reading
+pub mod Headers
+pub mod RoundTrip

@@ -9,6 +9,7 @@ use Rattle.jj_diff.specs.declared.diff.hunks.DiffHunk.{DiffHunk}
 use Rattle.jj_diff.specs.declared.diff.tokens.Tokenizer.TheVariants.{Lines}
 use Rattle.jj_diff_presentation.specs.Lines.{split_lines}
 use Rattle.jj_diff_presentation.specs.Scripts.{lines_of_parts}
+use Rattle.jj_diff_presentation.proofs.Scripts.{match_at}
 use Rattle.jj_diff_presentation.proofs.LineLaws.{split-append, terminated_at_end, split_empty}
 
 pub part_pushed : (i : ℕ) (hunks : List DiffHunk) (k : ℕ) (h : DiffHunk) (before after : List (List ℕ))
@@ -33,7 +34,7 @@ pub parts_finished : (i : ℕ) (hunks : List DiffHunk) (k : ℕ) (lines total : 
 parts_finished i hunks k lines total le inv =
     sym (ap (λ hs. lines ++ lines_of_parts i hs) (drop_all k hunks le) ∙ append-nil lines) ∙ inv
 
-pub ruleset part_steps = (part_pushed, parts_finished)
+pub ruleset part_steps = (part_pushed, parts_finished, match_at)
 
 last_of : (x y : List ℕ) → 0 < length x → get_or (x ++ y) (length x - 1) 0 ≡ get_or x (length x - 1) 0
 last_of x y h = get_or_append_left x y 0 (length x - 1) (omega arith)

@@ -1,9 +1,10 @@
 -- Runs of context lines.
 use Rattle.std.proofs.Common.{◌≡◌, ℕ, zero, suc, ◌+◌, ◌-◌, ◌<◌, ◌≤◌, true, false, cond, List, [], ◌∷◌, length, take, drop, get_or, refl, sym, ap, ◌∙◌, add-one, arith, inl, inr}
-use Rattle.std.proofs.lemmas.Bool.{cases_Bool, cases_lt}
+use Rattle.std.proofs.lemmas.Bool.{cases_Bool, cases_lt, and_parts}
 use Rattle.std.proofs.lemmas.List.{take_more, get_or_default, get_or-drop, length-drop}
 use Rattle.std.proofs.lemmas.Grind.{fold-append}
-use Rattle.jj_diff_presentation.specs.Scripts.{is_context}
+use Rattle.std.specs.List.{list_all}
+use Rattle.jj_diff_presentation.specs.Scripts.{is_context, AreContext}
 use Rattle.jj_diff_presentation.specs.Hunks.{leading_context, trailing_context, IsHunkEnd}
 use Rattle.jj_diff_presentation.specs.declared.unified.script.DiffLine.{DiffLine}
 use Rattle.jj_diff_presentation.specs.declared.unified.script.DiffLineType.TheVariants.{Context}
@@ -141,6 +142,14 @@ leading_change (x ∷ xs) n e lt =
           let z : n ≡ 0 = omega (arith, none, e) in
           ap (λ k. is_context (get_or (x ∷ xs) k any_line)) z ∙ f
     ]
+
+pub leading_all : (xs : List DiffLine) → AreContext xs → leading_context xs ≡ length xs
+leading_all [] all = refl
+leading_all (x ∷ xs) all =
+    let p : (is_context x ≡ true) × (list_all is_context xs ≡ true)
+    = and_parts (is_context x) (list_all is_context xs) all in
+    cond_true (is_context x) (1 + leading_context xs) 0 p.0
+    ∙ omega (arith, leading_all xs p.1)
 
 pub leading_drop : (xs : List DiffLine) (n : ℕ) → n ≤ leading_context xs
     → leading_context (drop n xs) + n ≡ leading_context xs

@@ -1,7 +1,14 @@
 -- Scripts that are joined.
-use Rattle.std.proofs.Common.{◌≡◌, ℕ, List, [], ◌∷◌, ◌++◌, length, refl, sym, ap, ◌∙◌, append_assoc, append-nil}
+use Rattle.std.proofs.Common.{◌≡◌, ℕ, zero, suc, ◌<◌, true, List, [], ◌∷◌, ◌++◌, length, get_or, refl, sym, ap, ◌∙◌, arith, append_assoc, append-nil}
+use Rattle.std.proofs.lemmas.Bool.{and_from}
+use Rattle.std.proofs.lemmas.List.Folds.{list_all-append}
+use Rattle.std.specs.List.{list_all}
+use Rattle.jj_diff.specs.Inputs.{AreEqual}
+use Rattle.jj_diff.specs.Hunks.{AllMatch}
+use Rattle.jj_diff.specs.declared.diff.hunks.DiffHunk.{DiffHunk}
+use Rattle.jj_diff.specs.declared.diff.hunks.DiffHunkKind.TheVariants.{Matching}
 use Rattle.jj_diff_presentation.specs.Lines.{split_lines}
-use Rattle.jj_diff_presentation.specs.Scripts.{on_left, on_right, left_lines, right_lines}
+use Rattle.jj_diff_presentation.specs.Scripts.{on_left, on_right, left_lines, right_lines, is_context, is_context_type, AreContext}
 use Rattle.jj_diff_presentation.specs.declared.unified.script.DiffLine.{DiffLine}
 use Rattle.jj_diff_presentation.specs.declared.unified.script.DiffLineType.{DiffLineType}
 use Rattle.jj_diff_presentation.specs.declared.unified.script.DiffLineType.TheVariants.{Context, Removed, Added}
@@ -87,4 +94,22 @@ right_finished k xs rest total h inv =
     ∙ ap (λ r. right_lines xs ++ r) (on_right-nil k) ∙ append-nil (right_lines xs))
     ∙ inv
 
-pub ruleset script_steps = (left_pushed, right_pushed, left_finished, right_finished)
+-- ---- lines of both sides
+
+pub context_pushed : (xs : List DiffLine) (x : DiffLine) (k : DiffLineType) → x.line_type ≡ k
+    → k ≡ Context → AreContext xs → AreContext (xs ++ x ∷ [])
+context_pushed xs x k e f all =
+    list_all-append is_context xs (x ∷ [])
+    ∙ and_from (list_all is_context xs) (list_all is_context (x ∷ [])) all
+    (and_from (is_context x) true (ap is_context_type (e ∙ f)) refl)
+
+pub match_at : (hunks : List DiffHunk) (i : ℕ) (h : DiffHunk) → i < length hunks
+    → h ≡ get_or hunks i h → AllMatch hunks → h.kind ≡ Matching
+match_at hunks i h lt e all = ap (λ (g : DiffHunk). g.kind) e ∙ all i h lt
+
+pub equal_sides : (left right : List ℕ) → left ≡ right → AreEqual (left ∷ right ∷ [])
+equal_sides left right e zero lt = refl
+equal_sides left right e (suc zero) lt = sym e
+equal_sides left right e (suc (suc i)) lt = absurd (omega arith)
+
+pub ruleset script_steps = (left_pushed, right_pushed, left_finished, right_finished, context_pushed)

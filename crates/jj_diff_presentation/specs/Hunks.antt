@@ -1,6 +1,6 @@
 -- Hunks of a unified diff.
 -- Cited by contracts of public items: IsPatch, HasContext.
-use Rattle.std.specs.Prelude.{◌≡◌, ℕ, ◌+◌, ◌-◌, ◌≤◌, ◌<◌, min, if◌then◌else◌, List, [], ◌∷◌, length, take, drop}
+use Rattle.std.specs.Prelude.{◌≡◌, ℕ, ◌+◌, ◌-◌, ◌^◌, ◌≤◌, ◌<◌, min, if◌then◌else◌, List, [], ◌∷◌, length, take, drop}
 use Rattle.std.specs.List.{slice_range, prefix_len, fold}
 use Rattle.jj_diff_presentation.specs.declared.unified.script.DiffLine.{DiffLine}
 use Rattle.jj_diff_presentation.specs.declared.unified.hunks.UnifiedDiffHunk.{UnifiedDiffHunk}
@@ -8,7 +8,8 @@ use Rattle.jj_diff_presentation.specs.Scripts.{left_lines, right_lines, is_conte
 
 -- The ranges of a hunk are within the lines of both sides, and from lines i and j on. The lines
 -- before them are equal on both sides. The hunk's lines are those of the ranges.
-pub record IsHunkAfter (left right : List (List ℕ)) (i j : ℕ) (hunk : UnifiedDiffHunk) : Type 0 where
+pub record IsHunkAfter (left right : List (List ℕ)) (i j : ℕ) (hunk : UnifiedDiffHunk)
+    : Type 0 where
   pub left_start : i ≤ hunk.left_line_range.start
   pub left_end : hunk.left_line_range.start ≤ hunk.left_line_range.end
   pub left_within : hunk.left_line_range.end ≤ length left
@@ -64,6 +65,13 @@ abbrev pub HasContext : ℕ → ℕ → List UnifiedDiffHunk → Type 0
 HasContext context total hunks = HasContextFrom context total 0 0 context hunks
 
 -- Machinery of private functions.
+
+-- the ranges start before they end, at numbers whose successors fit
+pub record HasRanges (hunk : UnifiedDiffHunk) : Type 0 where
+  pub left_order : hunk.left_line_range.start ≤ hunk.left_line_range.end
+  pub left_fits : hunk.left_line_range.start < 2 ^ 64 - 1
+  pub right_order : hunk.right_line_range.start ≤ hunk.right_line_range.end
+  pub right_fits : hunk.right_line_range.start < 2 ^ 64 - 1
 
 -- a hunk that begins with the first of these lines has n lines: after the last change there are
 -- `context` lines or all that are left, and more than `context` lines before another change

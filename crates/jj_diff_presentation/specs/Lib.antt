@@ -2,3 +2,6 @@
 pub mod Lines
 pub mod Scripts
 pub mod Hunks
+pub mod PatchText
+pub mod Applying
+pub mod Views

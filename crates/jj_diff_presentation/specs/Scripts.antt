@@ -1,7 +1,7 @@
--- Lines of a diff, and the lines of both sides that they stand for.
--- Cited by contracts of public items: left_lines, right_lines.
-use Rattle.std.specs.Prelude.{ℕ, Bool, true, false, List, [], ◌∷◌, ◌++◌}
-use Rattle.std.specs.List.{slice_index_or}
+-- Lines of a diff, and the lines of both sides in them.
+-- Cited by contracts of public items: left_lines, right_lines, AreContext.
+use Rattle.std.specs.Prelude.{◌≡◌, ℕ, Bool, true, false, List, [], ◌∷◌, ◌++◌}
+use Rattle.std.specs.List.{slice_index_or, list_all}
 use Rattle.jj_diff.specs.Hunks.{row_of}
 use Rattle.jj_diff.specs.declared.diff.hunks.DiffHunk.{DiffHunk}
 use Rattle.jj_diff_presentation.specs.Lines.{split_lines}
@@ -38,6 +38,10 @@ is_context_type Added = false
 
 abbrev pub is_context : DiffLine → Bool
 is_context line = is_context_type line.line_type
+
+-- no line is removed or added
+abbrev pub AreContext : List DiffLine → Type 0
+AreContext lines = list_all is_context lines ≡ true
 
 -- Machinery of private functions.
 

@@ -8,7 +8,7 @@ pub fn split_first_line(text: &[u8]) -> (&[u8], &[u8])
     requires { 0 < length text.now }
     ensures lines { split_lines text.now ≡ result.0.now ∷ split_lines result.1.now }
     ensures shorter { length result.1.now < length text.now }
-    ensures bounded { length result.0.now ≤ length text.now }
+    ensures nonempty { 0 < length result.0.now }
 {
     for (index, byte) in text.iter().enumerate() {
         if *byte == b'\n' {

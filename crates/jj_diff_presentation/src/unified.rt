@@ -1,7 +1,12 @@
 //! Unified diffs: hunks of changed lines with context around them.
 
+mod header;
 mod hunks;
+mod patch;
+mod render;
 mod script;
 
-pub use hunks::UnifiedDiffHunk;
+pub use hunks::{UnifiedDiffHunk, group_diff_lines, unified_diff_hunks};
+pub use patch::{ApplyError, ExpectedInPatch, PatchFault, apply};
+pub use render::write_unified_diff;
 pub use script::{DiffLine, DiffLineType, diff_lines};

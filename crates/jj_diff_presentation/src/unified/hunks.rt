@@ -1,8 +1,8 @@
 //! Hunks of a unified diff: changes whose contexts touch are in one hunk.
-ghost use Rattle.std.specs.Prelude.{◌≡◌, ℕ, ◌+◌, ◌-◌, ◌*◌, ◌^◌, ◌<◌, ◌≤◌, ◌↔◌, IsTrue, min, length, take, drop, IfOk, List};
+ghost use Rattle.std.specs.Prelude.{◌≡◌, ℕ, ◌+◌, ◌-◌, ◌*◌, ◌^◌, ◌<◌, ◌≤◌, ◌↔◌, IsTrue, min, length, take, drop, IfOk, List, []};
 ghost use Rattle.std.specs.List.{prefix_len, fold};
 ghost use Rattle.jj_diff_presentation.specs.Lines.{split_lines};
-ghost use Rattle.jj_diff_presentation.specs.Scripts.{left_lines, right_lines, is_context};
+ghost use Rattle.jj_diff_presentation.specs.Scripts.{left_lines, right_lines, is_context, AreContext};
 ghost use Rattle.jj_diff_presentation.specs.Hunks.{IsPatch, HasContext, leading_context, trailing_context, IsHunkEnd};
 
 use super::script::{DiffLine, DiffLineType, diff_lines};
@@ -136,6 +136,7 @@ pub fn group_diff_lines<'a>(
         (λ hunks. IsPatch (left_lines lines.now) (right_lines lines.now) hunks.items) }
     ensures context { IfOk result
         (λ hunks. HasContext context (length (left_lines lines.now)) hunks.items) }
+    ensures identity { IfOk result (λ hunks. AreContext lines.now → hunks.items ≡ []) }
 {
     let mut hunks = Vec::new(alloc);
     let mut rest = lines;
@@ -172,6 +173,8 @@ pub fn unified_diff_hunks<'a>(
     // Each hunk has a change, with exactly `context` lines around it where there are so many.
     ensures context { IfOk result
         (λ hunks. HasContext context (length (split_lines left.now)) hunks.items) }
+    // Equal sides have no hunks.
+    ensures identity { IfOk result (λ hunks. left.now ≡ right.now → hunks.items ≡ []) }
 {
     let lines = diff_lines(alloc, left, right)?;
     let hunks = group_diff_lines(alloc, &lines, context)?;

@@ -1,9 +1,9 @@
 //! The lines of both sides of a diff in one list.
 ghost use Rattle.std.specs.Prelude.{◌≡◌, ◌++◌, [], IfOk, OnOk, slice_index, All};
 ghost use Rattle.std.specs.List.{slice_index_or};
-ghost use Rattle.jj_diff.specs.Hunks.{IsHunk, row_of};
+ghost use Rattle.jj_diff.specs.Hunks.{AllMatch, IsHunk, row_of};
 ghost use Rattle.jj_diff_presentation.specs.Lines.{split_lines};
-ghost use Rattle.jj_diff_presentation.specs.Scripts.{left_lines, right_lines, on_left, on_right, is_context, lines_of_parts};
+ghost use Rattle.jj_diff_presentation.specs.Scripts.{left_lines, right_lines, on_left, on_right, is_context, AreContext, lines_of_parts};
 
 use crate::lines::split_first_line;
 use jj_diff::diff::{DiffHunk, DiffHunkKind, diff_by_line};
@@ -50,6 +50,8 @@ fn push_lines<'a>(
         ≡ left_lines lines.old.items ++ on_left line_type (split_lines text.now)) }
     ensures right { OnOk result (right_lines lines.new.items
         ≡ right_lines lines.old.items ++ on_right line_type (split_lines text.now)) }
+    ensures context { OnOk result (line_type ≡ DiffLineType.Context
+        → AreContext lines.old.items → AreContext lines.new.items) }
 {
     let mut rest = text;
     while !rest.is_empty() {
@@ -70,6 +72,8 @@ fn push_hunk<'a>(lines: &mut Vec<DiffLine<'a>>, hunk: &DiffHunk<'a>) -> Result<(
         ≡ left_lines lines.old.items ++ split_lines (slice_index_or (row_of hunk.now) 0 [])) }
     ensures right { OnOk result (right_lines lines.new.items
         ≡ right_lines lines.old.items ++ split_lines (slice_index_or (row_of hunk.now) 1 [])) }
+    ensures context { OnOk result (hunk.now.kind ≡ DiffHunkKind.Matching
+        → AreContext lines.old.items → AreContext lines.new.items) }
 {
     let left = hunk.contents[0];
     let right = hunk.contents[1];
@@ -91,6 +95,7 @@ fn lines_of_hunks<'a>(
     requires { All (IsHunk 2) hunks.now }
     ensures left { IfOk result (λ lines. left_lines lines.items ≡ lines_of_parts 0 hunks.now) }
     ensures right { IfOk result (λ lines. right_lines lines.items ≡ lines_of_parts 1 hunks.now) }
+    ensures context { IfOk result (λ lines. AllMatch hunks.now → AreContext lines.items) }
 {
     let mut lines = Vec::new(alloc);
     for hunk in hunks {
@@ -99,7 +104,7 @@ fn lines_of_hunks<'a>(
     Ok(lines)
 }
 
-/// Returns the lines of both sides: of each difference first the removed lines, then the added ones.
+/// Returns the lines of both sides: of each difference the removed lines, then the added ones.
 pub fn diff_lines<'a>(
     alloc: Global,
     left: &'a [u8],
@@ -109,6 +114,8 @@ pub fn diff_lines<'a>(
     ensures left { IfOk result (λ lines. left_lines lines.items ≡ split_lines left.now) }
     // Context lines and added lines are the lines of the right side.
     ensures right { IfOk result (λ lines. right_lines lines.items ≡ split_lines right.now) }
+    // Equal sides have no removed and no added lines.
+    ensures context { IfOk result (λ lines. left.now ≡ right.now → AreContext lines.items) }
 {
     let hunks = diff_by_line(alloc, &[left, right], 0)?;
     let lines = lines_of_hunks(alloc, &hunks)?;

@@ -1,8 +1,8 @@
-use Rattle.std.proofs.Common.{◌+◌, ◌<◌, ◌≤◌, length, subst, sym, ap, ◌∙◌, arith}
+use Rattle.std.proofs.Common.{◌+◌, ◌<◌, ◌≤◌, length, subst, sym, ap, ◌∙◌, arith, refl}
 use Rattle.jj_diff_presentation.specs.Scripts.{left_lines, right_lines}
 use Rattle.jj_diff_presentation.specs.Hunks.{leading_context}
 use Rattle.jj_diff_presentation.proofs.Grouping.{IsGrouped, grouped_first, grouped_step, grouped_last, ends_bounded}
-use Rattle.jj_diff_presentation.proofs.Runs.{leading_drop}
+use Rattle.jj_diff_presentation.proofs.Runs.{leading_drop, leading_all}
 use Rattle.jj_diff_presentation.proofs.unified.hunks.group_diff_lines.Goals as goal
 
 pub hunks-init : goal.hunks-init
@@ -12,6 +12,7 @@ hunks-init c = record {
       (grouped_first c.args.lines.now c.args.context);
   left = omega arith;
   right = omega arith;
+  identity = λ all. (c.new-hunks.ensures.items, refl);
 }
 
 pub count_hunk_lines-len-requires-clause-change : goal.count_hunk_lines-len-requires-clause-change
@@ -63,6 +64,13 @@ hunks-preserved c =
           c.in_ok-hunk.ensures.left_end c.in_ok-hunk.ensures.right_end;
       left = bounds.0;
       right = bounds.1;
+      identity = λ all. absurd (omega (
+        arith,
+        c.count_leading_context-skipped.ensures.count,
+        leading_all c.args.lines.now all,
+        ap leading_context (c.hunks.invariant.identity all).1,
+        ap length (c.hunks.invariant.identity all).1,
+      ));
     }
 
 pub returns-then-skipped-rest-clause-patch : goal.returns-then-skipped-rest-clause-patch
@@ -76,3 +84,6 @@ returns-then-skipped-rest-clause-context c =
     (grouped_last (left_lines c.args.lines.now) (right_lines c.args.lines.now) c.args.context
     c.hunks.left c.hunks.right c.hunks.rest.now c.hunks.hunks.items c.hunks.invariant.grouped
     (sym c.count_leading_context-skipped.ensures.count ∙ c.if-skipped-rest.true)).1
+
+pub returns-then-skipped-rest-clause-identity : goal.returns-then-skipped-rest-clause-identity
+returns-then-skipped-rest-clause-identity c = λ all. (c.hunks.invariant.identity all).0

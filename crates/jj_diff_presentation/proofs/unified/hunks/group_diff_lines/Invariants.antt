@@ -1,5 +1,5 @@
-use Rattle.std.proofs.Common.{◌+◌, ◌≤◌, length}
-use Rattle.jj_diff_presentation.specs.Scripts.{left_lines, right_lines}
+use Rattle.std.proofs.Common.{◌≡◌, ◌+◌, ◌≤◌, [], length}
+use Rattle.jj_diff_presentation.specs.Scripts.{left_lines, right_lines, AreContext}
 use Rattle.jj_diff_presentation.proofs.Grouping.{IsGrouped}
 use Rattle.jj_diff_presentation.proofs.unified.hunks.group_diff_lines.Given as goal
 
@@ -9,6 +9,7 @@ invariant-hunks l = record {
       l.hunks.items;
   left : l.left + length l.rest ≤ length l.lines;
   right : l.right + length l.rest ≤ length l.lines;
+  identity : AreContext l.lines → (l.hunks.items ≡ []) × (l.rest ≡ l.lines);
 }
 
 abbrev pub decreases-hunks : goal.decreases-hunks

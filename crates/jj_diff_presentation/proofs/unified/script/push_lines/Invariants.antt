@@ -1,6 +1,7 @@
 use Rattle.std.proofs.Common.{◌≡◌, ◌++◌, length}
 use Rattle.jj_diff_presentation.specs.Lines.{split_lines}
-use Rattle.jj_diff_presentation.specs.Scripts.{left_lines, right_lines, on_left, on_right}
+use Rattle.jj_diff_presentation.specs.Scripts.{left_lines, right_lines, on_left, on_right, AreContext}
+use Rattle.jj_diff_presentation.specs.declared.unified.script.DiffLineType.TheVariants.{Context}
 use Rattle.jj_diff_presentation.proofs.unified.script.push_lines.Given as goal
 
 abbrev pub invariant-loop-rest : goal.invariant-loop-rest
@@ -9,6 +10,7 @@ invariant-loop-rest l = record {
       ≡ left_lines l.fn.lines.items ++ on_left l.line_type (split_lines l.text);
   right : right_lines l.lines.items ++ on_right l.line_type (split_lines l.rest)
       ≡ right_lines l.fn.lines.items ++ on_right l.line_type (split_lines l.text);
+  context : l.line_type ≡ Context → AreContext l.fn.lines.items → AreContext l.lines.items;
 }
 
 abbrev pub decreases-loop-rest : goal.decreases-loop-rest
