@@ -10,3 +10,4 @@ pub mod PatchText
 pub mod Reading
 pub mod Headers
 pub mod RoundTrip
+pub mod Words

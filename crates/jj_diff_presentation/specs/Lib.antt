@@ -5,3 +5,4 @@ pub mod Hunks
 pub mod PatchText
 pub mod Applying
 pub mod Views
+pub mod Words

@@ -1,0 +1,35 @@
+-- Differences of words.
+-- Cited by contracts of public items: left_text, right_text, IsToken, tokens_text.
+use Rattle.std.specs.Prelude.{◌≡◌, ℕ, List, [], ◌∷◌, ◌++◌, codes}
+use Rattle.jj_diff_presentation.specs.declared.unified.words.DiffToken.{DiffToken}
+use Rattle.jj_diff_presentation.specs.declared.unified.words.DiffTokenType.{DiffTokenType}
+use Rattle.jj_diff_presentation.specs.declared.unified.words.DiffTokenType.TheVariants.{Matching, Different}
+
+-- the left parts: all but the additions
+abbrev pub left_text : List DiffToken → List ℕ
+left_text [] = []
+left_text (t ∷ ts) = t.left.now ++ left_text ts
+
+-- the right parts: all but the removals
+abbrev pub right_text : List DiffToken → List ℕ
+right_text [] = []
+right_text (t ∷ ts) = t.right.now ++ right_text ts
+
+-- the parts of a token that matches are equal
+abbrev pub IsToken : DiffToken → Type 0
+IsToken token = token.token_type ≡ Matching → token.left.now ≡ token.right.now
+
+-- the string between two marks, or nothing if it is empty
+abbrev pub marked : List ℕ → List ℕ → List ℕ → List ℕ
+marked first [] last = []
+marked first (b ∷ bs) last = first ++ b ∷ bs ++ last
+
+abbrev pub token_text : DiffTokenType → List ℕ → List ℕ → List ℕ
+token_text Matching left right = left
+token_text Different left right =
+    marked (codes "[-") left (codes "-]") ++ marked (codes "{+") right (codes "+}")
+
+-- `[-removed-]{+added+}` where the sides differ
+abbrev pub tokens_text : List DiffToken → List ℕ
+tokens_text [] = []
+tokens_text (t ∷ ts) = token_text t.token_type t.left.now t.right.now ++ tokens_text ts
