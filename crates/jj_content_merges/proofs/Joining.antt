@@ -1,8 +1,8 @@
 -- Hunks as the joiner appends them.
-use Rattle.std.proofs.Common.{◌≡◌, ℕ, ◌+◌, ◌<◌, List, [], ◌∷◌, ◌++◌, length, map, take, get_or, Bor, refl, ap, sym, ◌∙◌, arith, append_assoc, append-nil, Vec, Global}
+use Rattle.std.proofs.Common.{◌≡◌, ℕ, ◌+◌, ◌<◌, List, [], ◌∷◌, ◌++◌, length, take, get_or, Bor, refl, ap, sym, ◌∙◌, arith, append_assoc, append-nil, Vec, Global}
 use Rattle.std.proofs.lemmas.List.{map_push, take_more}
 use Rattle.jj_diff.specs.Inputs.{bytes_of}
-use Rattle.jj_content_merges.specs.Hunks.{merge_contents, contents, joined_after, joined, resolved_hunk}
+use Rattle.jj_content_merges.specs.Hunks.{merge_contents, contents, joined_after, resolved_hunk}
 
 abbrev pub Text : Type 0
 Text = Bor (List ℕ)

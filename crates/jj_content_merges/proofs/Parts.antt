@@ -1,11 +1,11 @@
 -- Parts and sides of hunks, as loops over the hunks find them.
-use Rattle.std.proofs.Common.{◌≡◌, ℕ, zero, suc, ◌+◌, ◌<◌, ◌≤◌, Bool, true, false, ◌==◌, ◌&&◌, List, [], ◌∷◌, ◌++◌, length, map, drop, get_or, Bor, refl, ap, sym, ◌∙◌, arith, ne_eqb, append_assoc, append-nil, Vec, Global}
+use Rattle.std.proofs.Common.{◌≡◌, ℕ, zero, suc, ◌+◌, ◌<◌, ◌≤◌, true, false, ◌==◌, ◌&&◌, List, [], ◌∷◌, ◌++◌, length, map, drop, get_or, Bor, refl, ap, sym, ◌∙◌, arith, ne_eqb, append_assoc, append-nil, Vec, Global}
 use Rattle.std.proofs.lemmas.List.{at_drop_more, at_drop_all, map_push}
 use Rattle.std.proofs.lemmas.List.FromFn.{map-range_with_len_more}
 use Rattle.std.specs.List.{range_with_len}
 use Rattle.jj_diff.specs.Inputs.{bytes_of}
 use Rattle.jj_content_merges.specs.declared.files.hunks.MergeHunk.{MergeHunk}
-use Rattle.jj_content_merges.specs.Hunks.{merge_contents, contents, is_resolved, all_resolved, part, merged_side, joined_after, joined, resolved_hunk}
+use Rattle.jj_content_merges.specs.Hunks.{merge_contents, is_resolved, all_resolved, part, merged_side, joined_after, resolved_hunk}
 use Rattle.jj_content_merges.specs.Files.{terms_of}
 
 abbrev pub Text : Type 0

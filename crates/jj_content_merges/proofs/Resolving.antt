@@ -21,7 +21,7 @@ use Rattle.jj_merges.specs.Resolution.{ResolvesTo}
 use Rattle.jj_content_merges.specs.declared.files.hunks.MergeHunk.{MergeHunk}
 use Rattle.jj_content_merges.specs.declared.files.FileMergeHunkLevel.{FileMergeHunkLevel}
 use Rattle.jj_content_merges.specs.Hunks.{all_resolved, merged_side}
-use Rattle.jj_content_merges.specs.Files.{terms_of, IsSplit, IsOutcome, Outcomes, IsTokenMerge, IsWordMerge, IsHunk, IsContentMerge}
+use Rattle.jj_content_merges.specs.Files.{terms_of, IsSplit, Outcomes, IsTokenMerge, IsWordMerge, IsHunk, IsContentMerge}
 
 abbrev pub Text : Type 0
 Text = Bor (List ℕ)

@@ -1,13 +1,13 @@
 -- Sides of merged hunks: of joined ones, of resolved ones, and of those of which none is resolved.
-use Rattle.std.proofs.Common.{◌≡◌, ℕ, ◌+◌, ◌<◌, Bool, true, false, cond, not, ◌&&◌, List, [], ◌∷◌, ◌++◌, length, map, get_or, refl, ap, sym, ◌∙◌, arith, inl, inr, append_assoc, append-nil, true≢false}
-use Rattle.std.specs.List.{concat, AllZip, list_all}
+use Rattle.std.proofs.Common.{◌≡◌, ℕ, ◌<◌, true, cond, not, List, [], ◌∷◌, ◌++◌, length, get_or, refl, ap, sym, ◌∙◌, inl, inr, append_assoc, append-nil, true≢false}
+use Rattle.std.specs.List.{AllZip}
 use Rattle.std.proofs.lemmas.Bool.{cases_Bool, and_parts}
 use Rattle.jj_diff.specs.Inputs.{side}
 use Rattle.jj_merges.specs.declared.merge.SameChange.{SameChange}
 use Rattle.jj_content_merges.specs.declared.files.FileMergeHunkLevel.{FileMergeHunkLevel}
 use Rattle.jj_content_merges.specs.declared.files.FileMergeHunkLevel.TheVariants.{Line, Word}
 use Rattle.jj_content_merges.specs.Hunks.{is_resolved, all_resolved, none_resolved, part, merged_side, resolved_hunk, joined_after, joined}
-use Rattle.jj_content_merges.specs.Files.{IsWordMerge, IsHunk, IsContentMerge}
+use Rattle.jj_content_merges.specs.Files.{IsHunk, IsContentMerge}
 
 -- ---- resolved hunks
 

@@ -1,7 +1,7 @@
 -- Merges of contents, hunk by hunk.
 -- Cited by contracts of public items: IsContentMerge, IsMergeResult, IsResolvedTo, terms_of,
 -- tried_outcome.
-use Rattle.std.specs.Prelude.{◌≡◌, ◌⊎◌, ℕ, ◌<◌, ◌≤◌, true, false, List, [], ◌∷◌, length, map, take, All, Option, Some, None, if◌then◌else◌}
+use Rattle.std.specs.Prelude.{◌≡◌, ◌⊎◌, ℕ, ◌<◌, ◌≤◌, true, false, List, [], ◌∷◌, length, take, All, Option, Some, None, if◌then◌else◌}
 use Rattle.std.specs.List.{AllZip, slice_index_or}
 use Rattle.std.specs.Str.{bytes_eq}
 use Rattle.jj_diff.specs.declared.diff.tokens.Tokenizer.{Tokenizer}
