@@ -6,7 +6,7 @@ ghost use Rattle.sqlite.specs.State.{HasCleanDisk};
 ghost use Rattle.jj_mirror.specs.Logs.{Appends};
 ghost use Rattle.jj_sqlite.specs.Inserts.{StoresEntries};
 ghost use Rattle.jj_sqlite.specs.Opening.{FailsToCreate};
-ghost use Rattle.jj_sqlite.specs.Rows.{IsGoodRow, IsReadError};
+ghost use Rattle.jj_sqlite.specs.Rows.{AreNumbered, IsGoodRow, IsReadError};
 
 use jj_backend::backend::BackendResult;
 use jj_mirror::object_log::{LogEntry, ObjectKind, ObjectLog};
@@ -26,6 +26,7 @@ pub fn over<S: Alter>(conn: Connection<S>) -> Result<SqliteLog<S>, (OpenError, C
 /// `entries_from_rows`.
 pub fn entries_from_rows(alloc: Global, rows: &[Row]) -> Result<Vec<LogEntry>, OpenError>
     ensures ok { IfOk result (λ entries. AllZip IsGoodRow rows.now entries.items) }
+    ensures numbered { OnOk result (AreNumbered rows.now) }
     ensures error { IfErr result (IsReadError rows.now) }
 {
     sqlite_log::entries_from_rows(alloc, rows)
