@@ -2,3 +2,6 @@ pub mod Splits
 pub mod Delimited
 pub mod Repeated
 pub mod Unquoting
+pub mod Tails
+pub mod Steps
+pub mod Appended

@@ -5,3 +5,5 @@ pub mod Values
 pub mod People
 pub mod Changes
 pub mod Commands
+pub mod Texts
+pub mod Streams

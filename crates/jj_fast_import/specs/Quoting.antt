@@ -1,6 +1,6 @@
 -- Paths in double quotes.
-use Rattle.std.specs.Prelude.{ℕ, ◌+◌, ◌-◌, ◌*◌, ◌/◌, ◌%◌, Bool, ◌==◌, ◌&&◌, ◌||◌, nat_le, nat_lt, if◌then◌else◌, List, [], ◌∷◌, ◌++◌, Option, Some, None}
-use Rattle.std.specs.List.{flat_map}
+use Rattle.std.specs.Prelude.{ℕ, ◌+◌, ◌-◌, ◌*◌, ◌/◌, ◌%◌, Bool, not, ◌==◌, ◌&&◌, ◌||◌, nat_le, nat_lt, if◌then◌else◌, List, [], ◌∷◌, ◌++◌, length, Option, Some, None}
+use Rattle.std.specs.List.{flat_map, list_all}
 use Rattle.jj_fast_import.specs.declared.quoting.Escape.{Escape}
 use Rattle.jj_fast_import.specs.declared.quoting.Escape.TheVariants.{Outside, Backslash, FirstDigit, SecondDigit}
 use Rattle.jj_fast_import.specs.declared.quoting.QuotedByte.{QuotedByte}
@@ -81,6 +81,14 @@ escape_by None b = plain_or_octal b
 -- a byte of a quoted path, as Git writes it
 abbrev pub escape_of : ℕ → List ℕ
 escape_of b = escape_by (letter_of b) b
+
+-- a printable ASCII character that is no space, quote or backslash
+abbrev pub is_plain : ℕ → Bool
+is_plain b = nat_lt 32 b && nat_lt b 127 && not (b == 34) && not (b == 92)
+
+-- a path that needs no quotes
+abbrev pub is_plain_path : List ℕ → Bool
+is_plain_path path = not (length path == 0) && list_all is_plain path
 
 -- a path in double quotes
 abbrev pub quoted : List ℕ → List ℕ

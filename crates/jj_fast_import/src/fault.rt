@@ -30,6 +30,25 @@ pub enum Expected {
     Note,
 }
 
+impl Expected {
+    /// The form, as messages name it.
+    pub fn as_str(self) -> &'static str {
+        match self {
+            Expected::Command => "a command",
+            Expected::Mark => "`mark :NUMBER`",
+            Expected::Person => "`NAME <EMAIL> SECONDS +hhmm`",
+            Expected::Committer => "a line `committer`",
+            Expected::Data => "`data COUNT` or `data <<DELIMITER`",
+            Expected::From => "`from :MARK` or `from COMMIT`",
+            Expected::Merge => "`merge :MARK` or `merge COMMIT`",
+            Expected::Modify => "`M MODE :MARK PATH`",
+            Expected::Delete => "`D PATH`",
+            Expected::TwoPaths => "two paths",
+            Expected::Note => "`N :MARK COMMIT`",
+        }
+    }
+}
+
 /// Why bytes do not begin with a command.
 #[derive(Clone, Copy, Debug, PartialEq, Eq)]
 pub enum Stop {

@@ -4,8 +4,11 @@
 mod changes;
 pub mod command;
 pub mod fault;
+pub mod laws;
 mod lines;
 pub mod parsing;
 mod people;
+pub mod printing;
 mod quoting;
+pub mod reader;
 mod words;
