@@ -1,7 +1,7 @@
 -- The entries of a log as the rows of its table, and the errors of an insertion.
 -- Cited by contracts of public items: ContainsEntries, ConvertsTo, FailsToInsert,
--- HasEntriesAfterCrash, MayFailToInsert, StoresEntries, WasNewOrContains.
-use Rattle.std.specs.Prelude.{◌≡◌, ◌⊎◌, ◌++◌, ◌∷◌, [], List, Err, IsTrue}
+-- HasEntriesAfterCrash, MayFailToBatch, MayFailToInsert, StoresEntries, WasNewOrContains.
+use Rattle.std.specs.Prelude.{◌≡◌, ◌⊎◌, ◌++◌, ◌∷◌, [], List, Err, IsTrue, false}
 use Rattle.sqlite.specs.declared.error.Error.{Error}
 use Rattle.sqlite.specs.declared.error.Error.TheVariants.{SqliteFailure}
 use Rattle.sqlite.specs.declared.error.ErrorCode.TheVariants.{OutOfMemory}
@@ -54,3 +54,9 @@ module _ {S : Type 0} (g : Ghosts S) where
   abbrev pub MayFailToInsert : Held S → LogEntryValue → BackendError → Type 0
   MayFailToInsert conn entry e = (new : Held S) × (cause : Error)
       × FailsToInsert entry conn new cause × ConvertsTo cause e
+
+  -- the errors of appending an entry in a transaction: those of its statement, and Other of kind Io
+  -- if an earlier failure has ended the transaction
+  abbrev pub MayFailToBatch : Held S → LogEntryValue → BackendError → Type 0
+  MayFailToBatch conn entry e = ((state g conn).in_transaction ≡ false) × IsOtherOf Io e
+      ⊎ MayFailToInsert conn entry e

@@ -3,5 +3,6 @@
 
 pub mod error;
 pub mod files;
+pub mod sqlite_batch;
 pub mod sqlite_log;
 pub mod store;
