@@ -1,0 +1,3 @@
+mod ReportedLines
+pub mod InMemory
+pub mod InputFailures
