@@ -3,10 +3,11 @@ use Rattle.std.proofs.Common.{◌≡◌, ◌∙◌, ℕ, ◌+◌, ◌<◌, List,
 use Rattle.std.specs.Prelude.{◌&&◌}
 use Rattle.std.specs.List.{list_all}
 use Rattle.std.proofs.lemmas.List.{take_more, get_or-map, length-map, map-append}
-use Rattle.jj_program.specs.declared.fault.StepFault.{StepFault}
-use Rattle.jj_program.specs.declared.fault.StepFault.TheVariants.{Memory, Line}
+use Rattle.jj_program.specs.declared.fault.LineFault.{LineFault}
+use Rattle.jj_filter.specs.declared.failure.Failure.{Failure}
+use Rattle.jj_filter.specs.declared.failure.Failure.TheVariants.{ReadInput, Memory, WriteOutput, Input}
 use Rattle.jj_program.specs.Forms.{Kind, value_at, values_at}
-use Rattle.jj_program.specs.Lines.{IsStepFaultOf}
+use Rattle.jj_program.specs.Lines.{IsFaultOf}
 
 module _ {A : Type 0} (kind : Kind A) where
   -- a valid field
@@ -22,10 +23,12 @@ module _ {A : Type 0} (kind : Kind A) where
       by_test false is e = cc
 
   -- an invalid field is the fault of the line
-  pub field-fault : (fault : StepFault) (text : List ℕ) (texts : List (List ℕ)) (rest : Bool) → list_all kind.is_one texts ≡ (kind.is_one text && rest)
-      → IsStepFaultOf fault (value_at kind text) → IsStepFaultOf fault (values_at kind texts)
+  pub field-fault : (fault : Failure LineFault) (text : List ℕ) (texts : List (List ℕ)) (rest : Bool) → list_all kind.is_one texts ≡ (kind.is_one text && rest)
+      → IsFaultOf fault (value_at kind text) → IsFaultOf fault (values_at kind texts)
   field-fault Memory text texts rest all h = tt
-  field-fault (Line found) text texts rest all h = by_test (kind.is_one text) refl h
+  field-fault ReadInput text texts rest all h = h
+  field-fault (WriteOutput is_closed) text texts rest all h = h
+  field-fault (Input found) text texts rest all h = by_test (kind.is_one text) refl h
     where
       by_test : (t : Bool) → kind.is_one text ≡ t → cond t (Ok (kind.value_of text)) (Err kind.otherwise) ≡ Err found → values_at kind texts ≡ Err found
       by_test true is e = cc

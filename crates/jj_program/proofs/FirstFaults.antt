@@ -2,7 +2,7 @@
 use Rattle.std.proofs.Common.{◌≡◌, ◌∙◌, ℕ, ◌+◌, ◌-◌, ◌<◌, ◌≤◌, zero, suc, Bool, true, false, List, [], ◌∷◌, length, take, drop, Result, Ok, Err, is_ok, refl, ap, sym, subst, arith, true≢false, None}
 use Rattle.std.specs.Result.{result_map_both}
 use Rattle.jj_program.specs.declared.fault.Fault.{Fault}
-use Rattle.jj_program.specs.declared.fault.Fault.TheVariants.{Memory, Line}
+use Rattle.jj_program.specs.declared.fault.Fault.TheVariants.{NotUtf8, Line}
 use Rattle.jj_program.specs.declared.fault.LineFault.{LineFault}
 use Rattle.jj_program.specs.declared.program.Command.TheVariants.{Walk, Merge, Graph, Hash}
 use Rattle.jj_program.specs.Laws.{BeginAlike, FaultsAreOfFirstLines}
@@ -50,7 +50,7 @@ module _ {S : Type 0} (step : S → List (List ℕ) → Result S LineFault) wher
   -- a line's fault has its number
   own_at : (number : ℕ) (r : Result S LineFault) (k : ℕ) (kind : LineFault) → result_map_both (λ state. state) (Line number) r ≡ Err (Line k kind) → k ≡ number
   own_at number (Ok state) k kind e = absurd (ok≢err state (Line k kind) e)
-  own_at number (Err other) k kind e = sym (ap (λ r. line_named (fault_or Memory r)) e)
+  own_at number (Err other) k kind e = sym (ap (λ r. line_named (fault_or NotUtf8 r)) e)
 
   own : (number : ℕ) (state : S) (line : List ℕ) (k : ℕ) (kind : LineFault) → after_line step number state line ≡ Err (Line k kind) → k ≡ number
   own number state [] k kind e = absurd (ok≢err state (Line k kind) e)
@@ -121,9 +121,9 @@ module _ {S : Type 0} (step : S → List (List ℕ) → Result S LineFault) wher
 -- 4. The commands.
 
 not_matchers : (marks : List Path) (stack : List (SetTree FileSet)) (number : ℕ) (kind : LineFault) → only_set marks stack ≡ Err (Line number kind) → ⊥
-not_matchers marks [] number kind e = true≢false (sym (ap (λ r. names_line (fault_or Memory r)) e))
+not_matchers marks [] number kind e = true≢false (sym (ap (λ r. names_line (fault_or NotUtf8 r)) e))
 not_matchers marks (set ∷ []) number kind e = ok≢err _ (Line number kind) e
-not_matchers marks (set ∷ other ∷ stack) number kind e = true≢false (sym (ap (λ r. names_line (fault_or Memory r)) e))
+not_matchers marks (set ∷ other ∷ stack) number kind e = true≢false (sym (ap (λ r. names_line (fault_or NotUtf8 r)) e))
 
 -- the request of the state after the lines
 abbrev only : WalkState → Result WalkRequest Fault

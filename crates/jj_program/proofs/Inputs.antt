@@ -6,9 +6,12 @@ use Rattle.std.proofs.lemmas.Str.{IsUtf8-from_is_utf8, is_utf8-from_IsUtf8}
 use Rattle.std.proofs.lemmas.Bool.{false_from_ne_true}
 use Rattle.jj_program.specs.declared.program.Command.{Command}
 use Rattle.jj_program.specs.declared.fault.Fault.{Fault}
-use Rattle.jj_program.specs.declared.fault.Fault.TheVariants.{ReadInput, NotUtf8, Memory, WriteOutput, Matchers, Line}
+use Rattle.jj_program.specs.declared.fault.Fault.TheVariants.{NotUtf8}
+use Rattle.jj_filter.specs.declared.failure.Failure.{Failure}
+use Rattle.jj_filter.specs.declared.failure.Failure.TheVariants.{ReadInput, Memory, WriteOutput, Input}
+use Rattle.jj_filter.specs.Runs.{IsInputFailure}
 use Rattle.jj_program.specs.Lines.{IsFaultOf}
-use Rattle.jj_program.specs.Program.{HasResult, HasResultOnText, IsFaultOfInput}
+use Rattle.jj_program.specs.Program.{FaultsOf, HasResult, HasResultOnText}
 
 -- the result on UTF-8 input is that of its string
 pub result_on_text : (command : Command) (input : List ℕ) (answer : Result (List ℕ) Fault) → IsUtf8 input → HasResultOnText command input answer → HasResult command input answer
@@ -24,27 +27,25 @@ known_result command known input answer is utf8 given = result_on_text command i
 
 -- a fault of the string is a fault of the input
 pub known_fault : {A : Type 0} (command known : Command) (input : List ℕ) (requested : Result A Fault) → ((fault : Fault) → requested ≡ Err fault → HasResultOnText known input (Err fault)) → command ≡ known
-    → (fault : Fault) → IsUtf8 input → IsFaultOf fault requested → IsFaultOfInput command input fault
+    → (failure : Failure Fault) → IsUtf8 input → IsFaultOf failure requested → IsInputFailure (FaultsOf command input) failure
 known_fault command known input requested given is Memory utf8 h = tt
 known_fault command known input requested given is ReadInput utf8 h = h
-known_fault command known input requested given is WriteOutput utf8 h = h
-known_fault command known input requested given is NotUtf8 utf8 h = known_result command known input (Err NotUtf8) is utf8 (given NotUtf8 h)
-known_fault command known input requested given is (Matchers count) utf8 h = known_result command known input (Err (Matchers count)) is utf8 (given (Matchers count) h)
-known_fault command known input requested given is (Line line kind) utf8 h = known_result command known input (Err (Line line kind)) is utf8 (given (Line line kind) h)
+known_fault command known input requested given is (WriteOutput is_closed) utf8 h = h
+known_fault command known input requested given is (Input fault) utf8 h = known_result command known input (Err fault) is utf8 (given fault h)
 
 -- each command is called with the input's string, so its output and its fault are the input's
-module _ {X : Type 0} (command known : Command) (input text : List ℕ) (result : Result X Fault) (is : command ≡ known) (read : (text ≡ input) × IsUtf8 input) where
+module _ {X : Type 0} (command known : Command) (input text : List ℕ) (result : Result X (Failure Fault)) (is : command ≡ known) (read : (text ≡ input) × IsUtf8 input) where
   pub known_output : (items : X → List ℕ) → IfOk result (λ output. HasResultOnText known text (Ok (items output))) → IfOk result (λ output. HasResult command input (Ok (items output)))
   known_output items = IfOk-weaker result (λ output. HasResultOnText known text (Ok (items output))) (λ output. HasResult command input (Ok (items output)))
       (λ output given. known_result command known input (Ok (items output)) is read.1 (subst (λ t. HasResultOnText known t (Ok (items output))) read.0 given))
 
   pub known_failure : {A : Type 0} (requested : List ℕ → Result A Fault) → ((fault : Fault) → requested input ≡ Err fault → HasResultOnText known input (Err fault))
-      → IfErr result (λ fault. IsFaultOf fault (requested text)) → IfErr result (IsFaultOfInput command input)
-  known_failure requested given = IfErr-weaker result (λ fault. IsFaultOf fault (requested text)) (IsFaultOfInput command input)
+      → IfErr result (λ fault. IsFaultOf fault (requested text)) → IfErr result (IsInputFailure (FaultsOf command input))
+  known_failure requested given = IfErr-weaker result (λ fault. IsFaultOf fault (requested text)) (IsInputFailure (FaultsOf command input))
       (λ fault found. known_fault command known input (requested input) given is fault read.1 (subst (λ t. IsFaultOf fault (requested t)) read.0 found))
 
   -- both
   pub known_answer : {A : Type 0} (items : X → List ℕ) (requested : List ℕ → Result A Fault) → ((fault : Fault) → requested input ≡ Err fault → HasResultOnText known input (Err fault))
       → IfOk result (λ output. HasResultOnText known text (Ok (items output))) → IfErr result (λ fault. IsFaultOf fault (requested text))
-      → IfOk result (λ output. HasResult command input (Ok (items output))) × IfErr result (IsFaultOfInput command input)
+      → IfOk result (λ output. HasResult command input (Ok (items output))) × IfErr result (IsInputFailure (FaultsOf command input))
   known_answer items requested given done fault = (known_output items done, known_failure requested given fault)

@@ -47,4 +47,3 @@ pub mod AlikeMatchers
 pub mod GlobFields
 pub mod SetVisits
 pub mod Dashes
-pub mod WrittenLines

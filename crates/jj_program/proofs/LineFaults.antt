@@ -7,7 +7,7 @@ use Rattle.std.proofs.lemmas.Bool.{le-ltb, lt-ltb}
 use Rattle.std.proofs.lemmas.List.Folds.{list_any-append}
 use Rattle.std.proofs.lemmas.List.Sums.{sum_by_push}
 use Rattle.jj_program.specs.declared.fault.Fault.{Fault}
-use Rattle.jj_program.specs.declared.fault.Fault.TheVariants.{ReadInput, NotUtf8, Memory, WriteOutput, Matchers, Line}
+use Rattle.jj_program.specs.declared.fault.Fault.TheVariants.{NotUtf8, Matchers, Line}
 use Rattle.jj_program.specs.declared.fault.LineFault.{LineFault}
 use Rattle.jj_program.specs.declared.fault.LineFault.TheVariants.{UnknownCommand, EmptyStack}
 use Rattle.jj_program.specs.declared.file_set.Combination.{Combination}
@@ -42,10 +42,7 @@ After (Err kind) P = Unit {0}
 -- after all lines, with the invariant of the last state
 abbrev Told : {S : Type 0} → (S → Type 0) → Result S Fault → Option Fault → Type 0
 Told P (Ok state) found = (found ≡ None) × P state
-Told P (Err ReadInput) found = ⊥
 Told P (Err NotUtf8) found = ⊥
-Told P (Err Memory) found = ⊥
-Told P (Err WriteOutput) found = ⊥
 Told P (Err (Matchers count)) found = ⊥
 Told P (Err (Line line kind)) found = found ≡ Some (Line line kind)
 
@@ -158,10 +155,7 @@ walk_told text = by (after_lines walk_step 1 begun (lines_of text)) (told Walk w
 
     by : (r : Result WalkState Fault) → Told (IsHigh (lines_of text)) r (first_fault Walk [] 1 (lines_of text)) → IsDeterminedBy Walk (lines_of text) (result_and_then r (λ state. only_set state.marks state.stack))
     by (Ok state) h = let high = h.1 in left state.marks state.stack h.0 (omega (arith, high))
-    by (Err ReadInput) h = absurd h
     by (Err NotUtf8) h = absurd h
-    by (Err Memory) h = absurd h
-    by (Err WriteOutput) h = absurd h
     by (Err (Matchers count)) h = absurd h
     by (Err (Line line kind)) h = h
 
@@ -224,10 +218,7 @@ graph_skips earlier state listing = longer earlier state state [] (Err UnknownCo
 -- a command without a condition on the last state
 plain : {S : Type 0} (command : Command) (P : S → Type 0) (lines : List (List ℕ)) (leaves : LeavesOneSet command lines) (r : Result S Fault) → Told P r (first_fault command [] 1 lines) → IsDeterminedBy command lines r
 plain command P lines leaves (Ok state) h = (h.0, leaves)
-plain command P lines leaves (Err ReadInput) h = absurd h
 plain command P lines leaves (Err NotUtf8) h = absurd h
-plain command P lines leaves (Err Memory) h = absurd h
-plain command P lines leaves (Err WriteOutput) h = absurd h
 plain command P lines leaves (Err (Matchers count)) h = absurd h
 plain command P lines leaves (Err (Line line kind)) h = h
 

@@ -3,7 +3,8 @@ use Rattle.std.proofs.Common.{◌≡◌, ℕ, ◌<◌, List, [], ◌∷◌, Resu
 use Rattle.std.proofs.lemmas.List.{drop-map}
 use Rattle.jj_program.specs.declared.fault.LineFault.{LineFault}
 use Rattle.jj_program.specs.declared.fault.Fault.{Fault}
-use Rattle.jj_program.specs.declared.fault.Fault.TheVariants.{ReadInput, NotUtf8, Memory, WriteOutput, Matchers, Line}
+use Rattle.jj_filter.specs.declared.failure.Failure.{Failure}
+use Rattle.jj_filter.specs.declared.failure.Failure.TheVariants.{ReadInput, Memory, WriteOutput, Input}
 use Rattle.jj_program.specs.Lines.{lines_of, after_line, after_lines, result_and_then, IsFaultOf}
 
 -- the models of the items after the first i
@@ -18,14 +19,12 @@ pub record IsFirstLine (text line behind : List ℕ) : Type 0 where
   pub shorter : length behind < length text
 
 -- a line's fault is that of the remaining lines
-pub IsFaultOf-first : {S : Type 0} (fault : Fault) (first : Result S Fault) (more : S → Result S Fault) (whole : Result S Fault)
+pub IsFaultOf-first : {S : Type 0} (fault : Failure Fault) (first : Result S Fault) (more : S → Result S Fault) (whole : Result S Fault)
     → result_and_then first more ≡ whole → IsFaultOf fault first → IsFaultOf fault whole
 IsFaultOf-first Memory first more whole e h = tt
 IsFaultOf-first ReadInput first more whole e h = h
-IsFaultOf-first WriteOutput first more whole e h = h
-IsFaultOf-first NotUtf8 first more whole e h = sym e ∙ ap (λ r. result_and_then r more) h
-IsFaultOf-first (Matchers count) first more whole e h = sym e ∙ ap (λ r. result_and_then r more) h
-IsFaultOf-first (Line line kind) first more whole e h = sym e ∙ ap (λ r. result_and_then r more) h
+IsFaultOf-first (WriteOutput is_closed) first more whole e h = h
+IsFaultOf-first (Input fault) first more whole e h = sym e ∙ ap (λ r. result_and_then r more) h
 
 module _ {S : Type 0} (step : S → List (List ℕ) → Result S LineFault) where
   -- one more line
@@ -37,7 +36,7 @@ module _ {S : Type 0} (step : S → List (List ℕ) → Result S LineFault) wher
       ∙ sym (ap (after_lines step number state) cut.first) ∙ all
 
   -- a line's fault is that of the input
-  pub line_fault : (fault : Fault) (number : ℕ) (state : S) (text line : List ℕ) (behind : List (List ℕ)) (whole : Result S Fault) → lines_of text ≡ line ∷ behind
+  pub line_fault : (fault : Failure Fault) (number : ℕ) (state : S) (text line : List ℕ) (behind : List (List ℕ)) (whole : Result S Fault) → lines_of text ≡ line ∷ behind
       → after_lines step number state (lines_of text) ≡ whole → IsFaultOf fault (after_line step number state line) → IsFaultOf fault whole
   line_fault fault number state text line behind whole first all found =
       IsFaultOf-first fault _ (λ further. after_lines step (number + 1) further behind) whole (sym (ap (after_lines step number state) first) ∙ all) found

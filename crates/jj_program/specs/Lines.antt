@@ -7,10 +7,10 @@ use Rattle.std.specs.List.{slice_split}
 use Rattle.std.specs.Result.{result_map_both}
 use Rattle.jj_program.specs.declared.fault.LineFault.{LineFault}
 use Rattle.jj_program.specs.declared.fault.Fault.{Fault}
-use Rattle.jj_program.specs.declared.fault.Fault.TheVariants.{ReadInput, Memory, WriteOutput, Line}
+use Rattle.jj_program.specs.declared.fault.Fault.TheVariants.{Line}
 use Rattle.std.specs.Borrow.{Bor}
-use Rattle.jj_program.specs.declared.fault.StepFault.{StepFault}
-use Rattle.jj_program.specs.declared.fault.StepFault.TheVariants.{Memory as Memory', Line as Line'}
+use Rattle.jj_filter.specs.Runs.{IsInputFailure}
+use Rattle.jj_filter.specs.declared.failure.Failure.{Failure}
 
 -- 1. Input.
 
@@ -65,18 +65,12 @@ Text = Bor (List ℕ)
 abbrev pub texts_of : List Text → List (List ℕ)
 texts_of texts = map (λ text. text.now) texts
 
--- the fault is the expected one, or out of memory
-abbrev pub IsFaultOf : {A : Type 0} → Fault → Result A Fault → Type 0
-IsFaultOf Memory expected = Unit {0}
-IsFaultOf ReadInput expected = ⊥
-IsFaultOf WriteOutput expected = ⊥
-IsFaultOf fault expected = expected ≡ Err fault
-
-abbrev pub IsStepFaultOf : {A : Type 0} → StepFault → Result A LineFault → Type 0
-IsStepFaultOf Memory' expected = Unit {0}
-IsStepFaultOf (Line' kind) expected = expected ≡ Err kind
+-- the failure is the expected fault, or out of memory
+abbrev pub IsFaultOf : {A F : Type 0} → Failure F → Result A F → Type 0
+IsFaultOf failure expected = IsInputFailure (λ fault. expected ≡ Err fault) failure
 
 -- the result, mapped to its model by `view`, is the expected one, or out of memory
-abbrev pub Agrees : {V A : Type 0} → Result V StepFault → (V → A) → Result A LineFault → Type 0
+abbrev pub Agrees : {V A : Type 0} → Result V (Failure LineFault) → (V → A) → Result A LineFault
+    → Type 0
 Agrees result view expected = MatchResult result (λ value. expected ≡ Ok (view value))
-    (λ fault. IsStepFaultOf fault expected)
+    (λ failure. IsFaultOf failure expected)

@@ -6,9 +6,10 @@ use Rattle.std.specs.Ordering.{nat_cmp}
 use Rattle.std.specs.declared.cmp.Ordering.{Ordering}
 use Rattle.jj_merges.specs.Merge.{adds, removes}
 use Rattle.jj_program.specs.declared.fault.Fault.{Fault}
-use Rattle.jj_program.specs.declared.fault.StepFault.{StepFault}
+use Rattle.jj_program.specs.declared.fault.LineFault.{LineFault}
+use Rattle.jj_filter.specs.declared.failure.Failure.{Failure}
 use Rattle.jj_program.specs.MergeCommand.{MergeRequest, IsMergeLine, merge_step}
-use Rattle.jj_program.specs.Lines.{AreLinesOf, IsFaultOf, IsStepFaultOf, Text, after_line}
+use Rattle.jj_program.specs.Lines.{AreLinesOf, IsFaultOf, Text, after_line}
 use Rattle.std.specs.Str.{bytes_eq}
 use Rattle.jj_merges.specs.declared.merge.SameChange.{SameChange}
 use Rattle.jj_merges.specs.Resolution.{ResolvesTo}
@@ -28,12 +29,12 @@ PerformsLine number line old new = (requests : List MergeRequest)
     × AreLinesOf IsMergeLine next new
 
 -- the fault of the fields of a line, after any requests
-abbrev pub IsFaultOfFields : StepFault → List (List ℕ) → Type 0
+abbrev pub IsFaultOfFields : Failure LineFault → List (List ℕ) → Type 0
 IsFaultOfFields fault fields = (requests : List MergeRequest)
-    → IsStepFaultOf fault (merge_step requests fields)
+    → IsFaultOf fault (merge_step requests fields)
 
 -- the fault of a line, after any requests
-abbrev pub IsFaultOfLine : Fault → ℕ → List ℕ → Type 0
+abbrev pub IsFaultOfLine : Failure Fault → ℕ → List ℕ → Type 0
 IsFaultOfLine fault number line = (requests : List MergeRequest)
     → IsFaultOf fault (after_line merge_step number requests line)
 

@@ -1,13 +1,10 @@
--- The result of a command on an input, and the streams after a run.
--- Cited by contracts of public items: FailsBy, WritesOutput, command_line, command_named,
--- is_read_failure, is_read_fault, is_write_failure, is_write_fault.
-use Rattle.std.specs.Prelude.{◌≡◌, ℕ, List, [], ◌∷◌, Bool, true, false, cond, codes, Option, Some, None, Result, Ok, Err}
+-- The result of a command on an input.
+-- Cited by contracts of public items: FaultsOf, OutputsOf, command_line, command_named.
+use Rattle.std.specs.Prelude.{◌≡◌, ℕ, List, [], ◌∷◌, cond, codes, Option, Some, None, Result, Ok, Err}
 use Rattle.std.specs.Bool.{MatchBool}
 use Rattle.std.specs.Str.{bytes_eq, is_utf8}
-use Rattle.std.specs.Io.KnownBytes.{Appends, Consumes, IsAtEnd, Keeps}
-use Rattle.jj_files.specs.Streams.{AppendsPrefixOf, Streams}
 use Rattle.jj_program.specs.declared.fault.Fault.{Fault}
-use Rattle.jj_program.specs.declared.fault.Fault.TheVariants.{ReadInput, NotUtf8, Memory, WriteOutput}
+use Rattle.jj_program.specs.declared.fault.Fault.TheVariants.{NotUtf8}
 use Rattle.jj_program.specs.declared.program.Command.{Command}
 use Rattle.jj_program.specs.declared.program.Command.TheVariants.{Walk, Merge, Graph, Hash}
 use Rattle.jj_program.specs.WalkCommand.{IsWalkResult}
@@ -42,51 +39,9 @@ abbrev pub HasResult : Command → List ℕ → Result (List ℕ) Fault → Type
 HasResult command input result = MatchBool (is_utf8 input) (HasResultOnText command input result)
     (result ≡ Err NotUtf8)
 
--- the fault is a failed read
-abbrev pub is_read_failure : Fault → Bool
-is_read_failure ReadInput = true
-is_read_failure other = false
+-- the outputs of inputs, and their faults
+abbrev pub OutputsOf : Command → List ℕ → List ℕ → Unit {0} → Type 0
+OutputsOf command input output outcome = HasResult command input (Ok output)
 
--- the fault is a failed write
-abbrev pub is_write_failure : Fault → Bool
-is_write_failure WriteOutput = true
-is_write_failure other = false
-
--- a run ended with a failed read
-abbrev pub is_read_fault : {A : Type 0} → Result A Fault → Bool
-is_read_fault (Err fault) = is_read_failure fault
-is_read_fault (Ok x) = false
-
--- a run ended with a failed write
-abbrev pub is_write_fault : {A : Type 0} → Result A Fault → Bool
-is_write_fault (Err fault) = is_write_failure fault
-is_write_fault (Ok x) = false
-
--- the source was read to its end, and this is the command's result for its bytes
-abbrev pub ReadsToResult : Command → (before after : Streams) → Result (List ℕ) Fault → Type 0
-ReadsToResult command before after result = (input : List ℕ)
-    × Consumes before.unread after.unread input × IsAtEnd after.unread
-    × HasResult command input result
-
--- the source was read to its end, and the whole output was written
-abbrev pub WritesOutput : Command → (before after : Streams) → Type 0
-WritesOutput command before after = (output : List ℕ)
-    × ReadsToResult command before after (Ok output) × Appends before.written after.written output
-
--- the streams after a failed run: nothing was written, unless a write failed, which leaves a prefix
--- of the output
-abbrev pub FailsBy : Command → (before after : Streams) → Fault → Type 0
-FailsBy command before after ReadInput = Keeps before.written after.written
-FailsBy command before after Memory = Keeps before.written after.written
-FailsBy command before after WriteOutput = (output : List ℕ)
-    × ReadsToResult command before after (Ok output)
-    × AppendsPrefixOf before.written after.written output
-FailsBy command before after fault =
-    ReadsToResult command before after (Err fault) × Keeps before.written after.written
-
--- the input has this fault, or memory ran out
-abbrev pub IsFaultOfInput : Command → List ℕ → Fault → Type 0
-IsFaultOfInput command input Memory = Unit {0}
-IsFaultOfInput command input ReadInput = ⊥
-IsFaultOfInput command input WriteOutput = ⊥
-IsFaultOfInput command input fault = HasResult command input (Err fault)
+abbrev pub FaultsOf : Command → List ℕ → Fault → Type 0
+FaultsOf command input fault = HasResult command input (Err fault)

@@ -1,14 +1,15 @@
--- Messages of faults, and lines on standard error.
--- Cited by contracts of public items: WritesLine, fault_text, line_fault_text, report_text,
+-- Messages of faults, and what standard error says of a run.
+-- Cited by contracts of public items: fault_text, line_fault_text, report_text, status_of,
 -- usage_text.
-use Rattle.std.specs.Prelude.{ℕ, List, ◌++◌, codes, ◌≡◌, [], ◌∷◌, Bool, false, Option}
+use Rattle.std.specs.Prelude.{ℕ, List, ◌++◌, codes, [], ◌∷◌, Result}
 use Rattle.std.specs.Fmt.{decimal}
 use Rattle.jj_program.specs.declared.fault.LineFault.{LineFault}
 use Rattle.jj_program.specs.declared.fault.LineFault.TheVariants.{UnknownCommand, BadFieldCount, BadPath, BadGlob, EmptyStack, BadNumber, RepeatedNode, BadHex}
 use Rattle.jj_program.specs.declared.fault.Fault.{Fault}
-use Rattle.jj_program.specs.declared.fault.Fault.TheVariants.{ReadInput, NotUtf8, Memory, WriteOutput, Matchers, Line}
-use Rattle.std.specs.Io.KnownBytes.{Appends}
-use Rattle.jj_files.specs.Streams.{AppendsPrefixOf}
+use Rattle.jj_program.specs.declared.fault.Fault.TheVariants.{NotUtf8, Matchers, Line}
+use Rattle.jj_filter.specs.Reports.{report_line}
+use Rattle.jj_filter.specs.Runs.{ended_status, ended_text}
+use Rattle.jj_filter.specs.declared.failure.Failure.{Failure}
 
 abbrev pub line_fault_text : LineFault → List ℕ
 line_fault_text UnknownCommand = codes "unknown command"
@@ -21,10 +22,7 @@ line_fault_text RepeatedNode = codes "repeated node"
 line_fault_text BadHex = codes "bad hex"
 
 abbrev pub fault_text : Fault → List ℕ
-fault_text ReadInput = codes "cannot read input"
 fault_text NotUtf8 = codes "input is not UTF-8"
-fault_text Memory = codes "out of memory"
-fault_text WriteOutput = codes "cannot write output"
 fault_text (Matchers count) = decimal count ++ codes " matchers at end"
 fault_text (Line line kind) = codes "line " ++ decimal line ++ codes ": " ++ line_fault_text kind
 
@@ -32,11 +30,9 @@ fault_text (Line line kind) = codes "line " ++ decimal line ++ codes ": " ++ lin
 abbrev pub usage_text : List ℕ
 usage_text = codes "usage: jj-core walk|merge|graph|hash" ++ 10 ∷ []
 
--- the line that reports a fault
-abbrev pub report_text : Fault → List ℕ
-report_text fault = codes "jj-core: " ++ fault_text fault ++ 10 ∷ []
+-- the line that reports how a run ended, and its exit status
+abbrev pub report_text : Result (Unit {0}) (Failure Fault) → List ℕ
+report_text ended = report_line (codes "jj-core") (ended_text (λ _. []) fault_text ended)
 
--- the line was appended, or a prefix of it by a sink that then failed
-abbrev pub WritesLine : (before after : Option (List ℕ)) → (failed : Bool) → List ℕ → Type 0
-WritesLine before after failed line =
-    AppendsPrefixOf before after line × (failed ≡ false → Appends before after line)
+abbrev pub status_of : Result (Unit {0}) (Failure Fault) → ℕ
+status_of = ended_status (λ _. 0) (λ _. 1)

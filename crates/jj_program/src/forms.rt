@@ -5,7 +5,8 @@ ghost use Rattle.std.specs.List.{count_by, position_or_len};
 ghost use Rattle.jj_program.specs.Forms.{Kind, admits, borrowed_table, evens, form_line, form_named, line_of, odds, first_fields, second_fields, is_dash, value_at, values_at};
 ghost use Rattle.jj_program.specs.Lines.{result_and_then, Agrees, texts_of};
 
-use crate::fault::{LineFault, StepFault};
+use crate::fault::LineFault;
+use jj_filter::failure::Failure;
 use std::alloc::{AllocError, Global};
 use std::mem::replace;
 
@@ -112,19 +113,19 @@ fn form_of<A: Copy>(forms: &[(&str, Shape, A)], word: &str) -> Option<(Shape, A)
 pub(crate) fn form_line<'a, 't, A: Copy>(
     forms: &[(&str, Shape, A)],
     fields: &'a [&'t str],
-) -> Result<(A, Shape, &'a [&'t str]), StepFault>
+) -> Result<(A, Shape, &'a [&'t str]), Failure<LineFault>>
     ensures parsed { Agrees result (λ line. (line.0, line.1, texts_of line.2.now))
         (form_line (borrowed_table forms.now) (texts_of fields.now)) }
     ensures admitted { IfOk result (λ line. admits line.1 (texts_of line.2.now) ≡ true) }
 {
     let [word, fields @ ..] = fields else {
-        return Err(StepFault::Line(LineFault::UnknownCommand));
+        return Err(Failure::Input(LineFault::UnknownCommand));
     };
     let Some((shape, action)) = form_of(forms, word) else {
-        return Err(StepFault::Line(LineFault::UnknownCommand));
+        return Err(Failure::Input(LineFault::UnknownCommand));
     };
     if !shape.admits(fields) {
-        return Err(StepFault::Line(LineFault::BadFieldCount));
+        return Err(Failure::Input(LineFault::BadFieldCount));
     }
     Ok((action, shape, fields))
 }
@@ -140,7 +141,7 @@ pub trait Field<'t>: Drop {
     ghost kind: { Kind Value };
 
     /// Parses a field.
-    fn parse(alloc: Global, text: &'t str) -> Result<Self, StepFault>
+    fn parse(alloc: Global, text: &'t str) -> Result<Self, Failure<LineFault>>
         ensures { Agrees result value (value_at kind text.now) };
 }
 
@@ -182,7 +183,7 @@ fn parse_fields<'t, F: Field<'t>>(
     alloc: Global,
     fields: &[&'t str],
     values: &mut Vec<F>,
-) -> Result<(), StepFault>
+) -> Result<(), Failure<LineFault>>
     ensures { Agrees result (λ _. map F.value values.new.items)
         (values_at F.kind (texts_of fields.now)) }
 {
@@ -201,7 +202,7 @@ fn parse_both<'t, A: Drop, F: Field<'t>, G: Field<'t>>(
     firsts: &[&'t str],
     seconds: &[&'t str],
     values: &mut LineValues<F, G>,
-) -> Result<A, StepFault>
+) -> Result<A, Failure<LineFault>>
     ensures { Agrees {A = A × List F.Value × List G.Value} result
         (λ action. (
           action,
@@ -225,7 +226,7 @@ pub(crate) fn parse_line<'t, A: Copy + Drop, F: Field<'t>, G: Field<'t>>(
     forms: &[(&str, Shape, A)],
     fields: &[&'t str],
     values: &mut LineValues<F, G>,
-) -> Result<A, StepFault>
+) -> Result<A, Failure<LineFault>>
     ensures { Agrees result
         (λ action. (
           action,

@@ -9,11 +9,12 @@ ghost use Rattle.jj_program.specs.GraphCommand.{GraphState, HasCycle, is_number,
 ghost use Rattle.jj_program.specs.GraphViews.{IsPlain, ids_of, graph_request_of, graph_state_of};
 
 use crate::edges::Edges;
-use crate::fault::{Fault, LineFault, StepFault};
+use crate::fault::{Fault, LineFault};
 use crate::forms::{Field, LineValues, Shape, parse_line};
 use crate::graph_walks::{Visited, ascending_common, ascending_heads, greatest_order, has_cycle};
 use crate::lines::{Reading, take_lines};
 use crate::listed_graph::ListedGraph;
+use jj_filter::failure::Failure;
 use std::alloc::{AllocError, Global};
 
 // A request with its ids.
@@ -40,10 +41,10 @@ impl<'t> Field<'t> for u64 {
 
     ghost kind = { number_kind };
 
-    fn parse(_alloc: Global, text: &'t str) -> Result<u64, StepFault> {
+    fn parse(_alloc: Global, text: &'t str) -> Result<u64, Failure<LineFault>> {
         match parse_number(text) {
             Some(number) => Ok(number),
-            None => Err(StepFault::Line(LineFault::BadNumber)),
+            None => Err(Failure::Input(LineFault::BadNumber)),
         }
     }
 }
@@ -110,7 +111,7 @@ pub(crate) const GRAPH_FORMS: &[(&str, Shape, GraphForm)] = &[
 
 impl GraphReading {
     // Adds the adjacency list of the first id of the line.
-    fn list(&mut self) -> Result<(), StepFault>
+    fn list(&mut self) -> Result<(), Failure<LineFault>>
         ensures { Agrees result (λ _. graph_state_of self.new)
             (with_node (graph_state_of self.old) self.old.ids.firsts.items) }
     {
@@ -119,13 +120,13 @@ impl GraphReading {
         };
         let is_first = self.edges.list(*id, neighbors)?;
         if !is_first {
-            return Err(StepFault::Line(LineFault::RepeatedNode));
+            return Err(Failure::Input(LineFault::RepeatedNode));
         }
         Ok(())
     }
 
     // Appends a request.
-    fn push_request(&mut self, request: GraphRequest) -> Result<(), StepFault>
+    fn push_request(&mut self, request: GraphRequest) -> Result<(), Failure<LineFault>>
         ensures { Agrees result (λ _. graph_state_of self.new)
             (with_request (graph_state_of self.old) (graph_request_of request)) }
     {
@@ -141,7 +142,7 @@ impl<'t> Reading<'t> for GraphReading {
 
     ghost step = { graph_step };
 
-    fn take(&mut self, alloc: Global, fields: &[&'t str]) -> Result<(), StepFault> {
+    fn take(&mut self, alloc: Global, fields: &[&'t str]) -> Result<(), Failure<LineFault>> {
         let form = parse_line::<GraphForm, u64, u64>(alloc, GRAPH_FORMS, fields, &mut self.ids)?;
         match form {
             GraphForm::Node => self.list(),
@@ -163,7 +164,7 @@ impl<'t> Reading<'t> for GraphReading {
 }
 
 // Returns the output of `graph` for an input.
-pub(crate) fn graph_output(alloc: Global, text: &str) -> Result<Vec<u8>, Fault>
+pub(crate) fn graph_output(alloc: Global, text: &str) -> Result<Vec<u8>, Failure<Fault>>
     ensures done { IfOk result (λ output. IsGraphResult text.now (Ok output.items)) }
     ensures fault { IfErr result (λ fault. IsFaultOf fault (graph_state text.now)) }
 {

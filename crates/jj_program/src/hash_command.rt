@@ -6,13 +6,14 @@ ghost use Rattle.jj_program.specs.Lines.{IsFaultOf, Agrees, texts_of};
 ghost use Rattle.jj_program.specs.HashCommand.{digest_line, hashed, bytes_of_hex, hash_step, hash_output, HasSize};
 ghost use Rattle.jj_program.specs.HashViews.{HashesHex};
 
-use crate::fault::{Fault, LineFault, StepFault};
+use crate::fault::{Fault, LineFault};
 use crate::forms::{Shape, form_line};
 use crate::lines::{Reading, take_lines};
 use crate::merge_command::merge_of;
 use jj_content::blake2b::Blake2b512;
 use jj_content::content_hash::blake2b_hash;
 use jj_content::hex_util::{decode_hex, encode_hex};
+use jj_filter::failure::Failure;
 use std::alloc::{AllocError, Global};
 
 // The content that a line describes.
@@ -45,7 +46,7 @@ impl<'t> Reading<'t> for HashReading {
 
     ghost step = { hash_step };
 
-    fn take(&mut self, alloc: Global, fields: &[&'t str]) -> Result<(), StepFault> {
+    fn take(&mut self, alloc: Global, fields: &[&'t str]) -> Result<(), Failure<LineFault>> {
         let (input, _shape, fields) = form_line(HASH_FORMS, fields)?;
         let digest = input_digest(alloc, input, fields)?;
         push_digest(alloc, &mut self.output, &digest)?;
@@ -54,7 +55,7 @@ impl<'t> Reading<'t> for HashReading {
 }
 
 // Returns the output of `hash` for an input.
-pub(crate) fn hash_lines(alloc: Global, text: &str) -> Result<Vec<u8>, Fault>
+pub(crate) fn hash_lines(alloc: Global, text: &str) -> Result<Vec<u8>, Failure<Fault>>
     ensures done { IfOk result (λ output. hash_output text.now ≡ Ok output.items) }
     ensures fault { IfErr result (λ fault. IsFaultOf fault (hash_output text.now)) }
 {
@@ -66,7 +67,11 @@ pub(crate) fn hash_lines(alloc: Global, text: &str) -> Result<Vec<u8>, Fault>
 }
 
 // The digest of the content of a line with these fields.
-fn input_digest(alloc: Global, input: HashInput, fields: &[&str]) -> Result<[u8; 64], StepFault>
+fn input_digest(
+    alloc: Global,
+    input: HashInput,
+    fields: &[&str],
+) -> Result<[u8; 64], Failure<LineFault>>
     requires { HasSize input (texts_of fields.now) }
     ensures { Agrees result (λ digest. digest) (hashed input (texts_of fields.now)) }
 {
@@ -91,7 +96,7 @@ fn input_digest(alloc: Global, input: HashInput, fields: &[&str]) -> Result<[u8;
 const CHUNK_DIGITS: usize = 32768;
 
 // The digest of the bytes of a hex string.
-fn raw_digest(alloc: Global, text: &str) -> Result<[u8; 64], StepFault>
+fn raw_digest(alloc: Global, text: &str) -> Result<[u8; 64], Failure<LineFault>>
     ensures { Agrees result (λ digest. digest)
         (ok_or (option_map blake2b (bytes_of_hex text.now)) LineFault.BadHex) }
 {
@@ -100,12 +105,12 @@ fn raw_digest(alloc: Global, text: &str) -> Result<[u8; 64], StepFault>
     while rest.len() > CHUNK_DIGITS {
         let (part, more) = rest.split_at(CHUNK_DIGITS);
         if !hash_hex(alloc, &mut hasher, part)? {
-            return Err(StepFault::Line(LineFault::BadHex));
+            return Err(Failure::Input(LineFault::BadHex));
         }
         rest = more;
     }
     if !hash_hex(alloc, &mut hasher, rest)? {
-        return Err(StepFault::Line(LineFault::BadHex));
+        return Err(Failure::Input(LineFault::BadHex));
     }
     Ok(hasher.finalize())
 }

@@ -5,7 +5,8 @@ ghost use Rattle.std.specs.List.{before_first, position_or_len};
 ghost use Rattle.jj_program.specs.declared.fault.LineFault.{LineFault};
 ghost use Rattle.jj_program.specs.Lines.{lines_of, line_text, fields_of, after_line, after_lines, IsFaultOf, Agrees, texts_of};
 
-use crate::fault::{Fault, StepFault};
+use crate::fault::{Fault, LineFault};
+use jj_filter::failure::Failure;
 use memchr::memchr2;
 use std::alloc::{AllocError, Global};
 
@@ -20,7 +21,7 @@ pub trait Reading<'t> {
     ghost step: { State → List (List ℕ) → Result State LineFault };
 
     /// Processes the fields of a line. After an error the value is not used again.
-    fn take(&mut self, alloc: Global, fields: &[&'t str]) -> Result<(), StepFault>
+    fn take(&mut self, alloc: Global, fields: &[&'t str]) -> Result<(), Failure<LineFault>>
         ensures { Agrees result (λ _. state self.new)
             (step (state self.old) (texts_of fields.now)) };
 }
@@ -32,7 +33,7 @@ fn take_line<'t, M: Reading<'t>>(
     line_number: usize,
     line: &str,
     fields: &[&'t str],
-) -> Result<(), Fault>
+) -> Result<(), Failure<Fault>>
     requires { texts_of fields.now ≡ fields_of line.now }
     ensures { MatchResult result
         (λ _. after_line M.step line_number (M.state reading.old) line.now
@@ -44,11 +45,11 @@ fn take_line<'t, M: Reading<'t>>(
     }
     match reading.take(alloc, fields) {
         Ok(()) => Ok(()),
-        Err(StepFault::Memory) => Err(Fault::Memory),
-        Err(StepFault::Line(kind)) => Err(Fault::Line {
+        Err(Failure::Input(kind)) => Err(Failure::Input(Fault::Line {
             line: line_number,
             kind,
-        }),
+        })),
+        Err(_) => Err(Failure::Memory),
     }
 }
 
@@ -57,7 +58,7 @@ pub fn take_lines<'t, M: Reading<'t>>(
     alloc: Global,
     reading: &mut M,
     text: &'t str,
-) -> Result<(), Fault>
+) -> Result<(), Failure<Fault>>
     ensures { MatchResult result
         (λ _. after_lines M.step 1 (M.state reading.old) (lines_of text.now)
         ≡ Ok (M.state reading.new))

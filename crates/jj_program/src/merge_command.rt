@@ -5,11 +5,12 @@ ghost use Rattle.jj_program.specs.Lines.{IsFaultOf, fields_of, texts_of};
 ghost use Rattle.jj_program.specs.MergeCommand.{IsMergeLine, merge_requests, IsMergeResult};
 ghost use Rattle.jj_program.specs.MergeViews.{PerformsFields, PerformsLine, IsFaultOfFields, IsFaultOfLine};
 
-use crate::fault::{Fault, StepFault};
+use crate::fault::{Fault, LineFault};
 use crate::forms::{Shape, form_line};
 use crate::lines::{push_line, split_line};
 use crate::merge_outcome::outcome;
 use crate::merge_simplify::simplified_terms;
+use jj_filter::failure::Failure;
 use jj_merges::merge::{Merge, MergeBuilder, SameChange};
 use std::alloc::{AllocError, Global};
 
@@ -39,7 +40,7 @@ pub(crate) fn merge_of<'t>(alloc: Global, terms: &[&'t str]) -> Result<Merge<&'t
 
 // Returns the output of `merge` for an input. Each line is performed as it is read, so that only
 // its output is stored.
-pub(crate) fn merge_output(alloc: Global, text: &str) -> Result<Vec<u8>, Fault>
+pub(crate) fn merge_output(alloc: Global, text: &str) -> Result<Vec<u8>, Failure<Fault>>
     ensures done { IfOk result (λ output. IsMergeResult text.now (Ok output.items)) }
     ensures fault { IfErr result (λ fault. IsFaultOf fault (merge_requests text.now)) }
 {
@@ -66,7 +67,7 @@ fn perform_line(
     line_number: usize,
     line: &str,
     fields: &[&str],
-) -> Result<(), Fault>
+) -> Result<(), Failure<Fault>>
     requires { texts_of fields.now ≡ fields_of line.now }
     ensures { MatchResult result
         (λ _. PerformsLine line_number line.now output.old.items output.new.items)
@@ -77,16 +78,20 @@ fn perform_line(
     }
     match perform_fields(alloc, output, fields) {
         Ok(()) => Ok(()),
-        Err(StepFault::Memory) => Err(Fault::Memory),
-        Err(StepFault::Line(kind)) => Err(Fault::Line {
+        Err(Failure::Input(kind)) => Err(Failure::Input(Fault::Line {
             line: line_number,
             kind,
-        }),
+        })),
+        Err(_) => Err(Failure::Memory),
     }
 }
 
 // Performs the operation that a line with these fields requests.
-fn perform_fields(alloc: Global, output: &mut Vec<u8>, fields: &[&str]) -> Result<(), StepFault>
+fn perform_fields(
+    alloc: Global,
+    output: &mut Vec<u8>,
+    fields: &[&str],
+) -> Result<(), Failure<LineFault>>
     ensures { MatchResult result
         (λ _. PerformsFields (texts_of fields.now) output.old.items output.new.items)
         (λ fault. IsFaultOfFields fault (texts_of fields.now)) }

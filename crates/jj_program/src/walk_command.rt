@@ -11,13 +11,14 @@ ghost use Rattle.jj_program.specs.WalkCommand.{SetTree, WalkState, glob_kind, pa
 ghost use Rattle.jj_program.specs.declared.file_set.matcher.FileSet.{FileSet};
 ghost use Rattle.jj_program.specs.SetCode.{sets_of};
 
-use crate::fault::{Fault, LineFault, StepFault};
+use crate::fault::{Fault, LineFault};
 use crate::file_set::Combination::{Difference, Intersection, Union};
 use crate::file_set::SetWord::{Everything, Files, Globs, Nothing, Prefix, PrefixGlobs};
 use crate::file_set::{Combination, SetLine, SetStack, SetWord, walk_set};
 use crate::forms::{Field, LineValues, Shape, parse_line};
 use crate::lines::{Reading, push_line, take_lines};
 use crate::walk_command::WalkForm::{Combine, Mark, Push};
+use jj_filter::failure::Failure;
 use jj_globs::glob::GlobError;
 use jj_matchers::matchers::PathGlobPattern;
 use jj_paths::repo_path::{InvalidNewRepoPathError, RepoPath};
@@ -39,12 +40,12 @@ impl<'t> Field<'t> for RepoPath<'t> {
 
     ghost kind = { path_kind };
 
-    fn parse(alloc: Global, text: &'t str) -> Result<RepoPath<'t>, StepFault> {
+    fn parse(alloc: Global, text: &'t str) -> Result<RepoPath<'t>, Failure<LineFault>> {
         match RepoPath::from_internal_string(alloc, text) {
             Ok(path) => Ok(path),
-            Err(InvalidNewRepoPathError::Memory) => Err(StepFault::Memory),
+            Err(InvalidNewRepoPathError::Memory) => Err(Failure::Memory),
             Err(InvalidNewRepoPathError::Invalid { value: _ }) => {
-                Err(StepFault::Line(LineFault::BadPath))
+                Err(Failure::Input(LineFault::BadPath))
             }
         }
     }
@@ -57,12 +58,12 @@ impl<'t> Field<'t> for PathGlobPattern {
 
     ghost kind = { glob_kind };
 
-    fn parse(alloc: Global, text: &'t str) -> Result<PathGlobPattern, StepFault> {
+    fn parse(alloc: Global, text: &'t str) -> Result<PathGlobPattern, Failure<LineFault>> {
         match PathGlobPattern::parse(alloc, text) {
             Ok(glob) => Ok(glob),
             Err(error) => match error {
-                GlobError::Memory => Err(StepFault::Memory),
-                _ => Err(StepFault::Line(LineFault::BadGlob)),
+                GlobError::Memory => Err(Failure::Memory),
+                _ => Err(Failure::Input(LineFault::BadGlob)),
             },
         }
     }
@@ -100,7 +101,7 @@ impl<'t> Reading<'t> for WalkReading<'t> {
 
     ghost step = { walk_step };
 
-    fn take(&mut self, alloc: Global, fields: &[&'t str]) -> Result<(), StepFault> {
+    fn take(&mut self, alloc: Global, fields: &[&'t str]) -> Result<(), Failure<LineFault>> {
         let form = parse_line::<WalkForm, RepoPath<'t>, PathGlobPattern>(
             alloc,
             WALK_FORMS,
@@ -114,14 +115,14 @@ impl<'t> Reading<'t> for WalkReading<'t> {
                 let globs = self.values.take_seconds(alloc);
                 Ok(self.sets.push(SetLine { word, paths, globs })?)
             }
-            Combine(_) if self.sets.height() < 2 => Err(StepFault::Line(LineFault::EmptyStack)),
+            Combine(_) if self.sets.height() < 2 => Err(Failure::Input(LineFault::EmptyStack)),
             Combine(combination) => Ok(self.sets.combine(combination)?),
         }
     }
 }
 
 // Returns the output of `walk` for an input.
-pub(crate) fn walk_output<'t>(alloc: Global, text: &'t str) -> Result<Vec<u8>, Fault>
+pub(crate) fn walk_output<'t>(alloc: Global, text: &'t str) -> Result<Vec<u8>, Failure<Fault>>
     ensures done { IfOk result (λ output. IsWalkResult text.now (Ok output.items)) }
     ensures fault { IfErr result (λ fault. IsFaultOf fault (walk_request text.now)) }
 {
@@ -138,7 +139,7 @@ pub(crate) fn walk_output<'t>(alloc: Global, text: &'t str) -> Result<Vec<u8>, F
     } = reading;
     match sets.height() {
         1 => Ok(found_lines(alloc, marks, sets)?),
-        height => Err(Fault::Matchers(height)),
+        height => Err(Failure::Input(Fault::Matchers(height))),
     }
 }
 

@@ -1,29 +1,29 @@
 -- Results of runs on an input in memory.
 -- Cited by contracts of public items: CanFailBy, FindsFiles, IsFaultOfWalk, IsRunOf.
 use Rattle.std.specs.Prelude.{◌≡◌, ◌⊎◌, ℕ, ◌++◌, List, codes, Ok, Err}
+use Rattle.jj_filter.specs.Runs.{CanFailBy as CanFail}
+use Rattle.jj_filter.specs.declared.failure.Failure.{Failure}
+use Rattle.jj_filter.specs.declared.failure.Failure.TheVariants.{Input}
 use Rattle.jj_paths.specs.Paths.{Path}
 use Rattle.jj_program.specs.declared.fault.Fault.{Fault}
-use Rattle.jj_program.specs.declared.fault.Fault.TheVariants.{ReadInput, NotUtf8, Memory, WriteOutput, Matchers, Line}
+use Rattle.jj_program.specs.declared.fault.Fault.TheVariants.{NotUtf8, Matchers, Line}
 use Rattle.jj_program.specs.declared.program.Command.{Command}
 use Rattle.jj_program.specs.declared.program.Command.TheVariants.{Walk}
 use Rattle.jj_program.specs.FoundFiles.{AreFound}
 use Rattle.jj_program.specs.LineFaults.{IsDeterminedBy}
 use Rattle.jj_program.specs.Lines.{lines_of}
-use Rattle.jj_program.specs.Program.{HasResult}
+use Rattle.jj_program.specs.Program.{FaultsOf, HasResult, OutputsOf}
 use Rattle.jj_program.specs.WalkCommand.{WalkRequest, walk_request, path_lines}
 
 -- the input has this fault; or out of memory, for the work or for the output; or more reads than
 -- can be counted
-abbrev pub CanFailBy : Command → List ℕ → Fault → Type 0
-CanFailBy command input ReadInput = Unit {0}
-CanFailBy command input Memory = Unit {0}
-CanFailBy command input WriteOutput = (output : List ℕ) × HasResult command input (Ok output)
-CanFailBy command input fault = HasResult command input (Err fault)
+abbrev pub CanFailBy : Command → List ℕ → Failure Fault → Type 0
+CanFailBy command = CanFail (OutputsOf command) (FaultsOf command)
 
 -- the exit status is 0 and this is the output, or it is 1 and the command can fail
 abbrev pub IsRunOf : Command → List ℕ → (status : ℕ) → (output : List ℕ) → Type 0
 IsRunOf command input status output = ((status ≡ 0) × HasResult command input (Ok output))
-    ⊎ ((status ≡ 1) × ((fault : Fault) × CanFailBy command input fault))
+    ⊎ ((status ≡ 1) × ((failure : Failure Fault) × CanFailBy command input failure))
 
 -- the output: a line for exactly each marked path in the set that the input describes, then a line
 -- for each directory entered
@@ -37,8 +37,8 @@ abbrev pub IsTold : List ℕ → Fault → Type 0
 IsTold text fault = IsDeterminedBy {A = List ℕ} Walk (lines_of text) (Err fault)
 
 -- likewise, or the input was not at fault
-abbrev pub IsFaultOfWalk : List ℕ → Fault → Type 0
-IsFaultOfWalk text NotUtf8 = ⊥
-IsFaultOfWalk text (Matchers count) = IsTold text (Matchers count)
-IsFaultOfWalk text (Line number kind) = IsTold text (Line number kind)
-IsFaultOfWalk text fault = Unit {0}
+abbrev pub IsFaultOfWalk : List ℕ → Failure Fault → Type 0
+IsFaultOfWalk text (Input NotUtf8) = ⊥
+IsFaultOfWalk text (Input (Matchers count)) = IsTold text (Matchers count)
+IsFaultOfWalk text (Input (Line number kind)) = IsTold text (Line number kind)
+IsFaultOfWalk text failure = Unit {0}

@@ -35,16 +35,24 @@ pub struct Kept {
     len: usize,
     most: usize,
     left: u32,
+    kind: ErrorKind,
     ghost within: { len ≤ 512 },
 }
 
 impl Kept {
+    /// A writer that fails as a closed pipe does.
     pub fn new(most: usize, left: u32) -> Kept {
+        Kept::failing(most, left, ErrorKind::BrokenPipe)
+    }
+
+    /// A writer that fails with an error of this kind.
+    pub fn failing(most: usize, left: u32, kind: ErrorKind) -> Kept {
         Kept {
             bytes: [0; ROOM],
             len: 0,
             most,
             left,
+            kind,
         }
     }
 
@@ -57,7 +65,7 @@ impl Kept {
 impl Write for Kept {
     fn write(&mut self, piece: &[u8]) -> io::Result<usize> {
         if self.left == 0 {
-            return Err(io::Error::from(ErrorKind::BrokenPipe));
+            return Err(io::Error::from(self.kind));
         }
         self.left -= 1;
         let n = self.most.min(piece.len()).min(ROOM - self.len);

@@ -1,7 +1,9 @@
 //! Runs of the program with short and failing reads and writes.
 use crate::ends::{Cut, Kept};
 use jj_files::file_util::Watched;
-use jj_program::program::{Command, Fault, run};
+use jj_filter::failure::Failure;
+use jj_filter::filter::run;
+use jj_program::program::{Command, Fault};
 use std::alloc::Global;
 use std::process::Abort;
 
@@ -14,7 +16,7 @@ pub fn outcome(
     most: usize,
     reads: u32,
     writes: u32,
-) -> (Result<(), Fault>, Kept) {
+) -> (Result<(), Failure<Fault>>, Kept) {
     let mut reader = Watched::new(Cut {
         rest: input,
         most,
@@ -22,7 +24,7 @@ pub fn outcome(
     });
     let mut kept = Kept::new(most, writes);
     let mut writer = Watched::new(&mut kept);
-    let result = run(alloc, command, &mut reader, &mut writer);
+    let result = run(alloc, &command, &mut reader, &mut writer);
     (result, kept)
 }
 
@@ -35,7 +37,7 @@ pub fn writes(rt: &(impl Abort + AllocGlobal), command: Command, input: &str, ou
                 assert_eq!(rt; kept.as_slice(), output.as_bytes(), "{input:?} {most}");
             }
             Err(fault) => {
-                assert_eq!(rt; fault, Fault::Memory, "{input:?} {most}");
+                assert_eq!(rt; fault, Failure::Memory, "{input:?} {most}");
                 assert!(rt; kept.as_slice().is_empty());
             }
         }
@@ -52,7 +54,12 @@ fn calls(text: &str, most: usize) -> usize {
 
 // Whether a run succeeded. It must if reads and writes do not fail; otherwise it must have this
 // fault, or be out of memory.
-fn is_done<R: Abort>(rt: &R, answer: Result<(), Fault>, lasts: bool, expected: Fault) -> bool {
+fn is_done<R: Abort>(
+    rt: &R,
+    answer: Result<(), Failure<Fault>>,
+    lasts: bool,
+    expected: Failure<Fault>,
+) -> bool {
     match answer {
         Ok(()) => {
             assert!(rt; lasts);
@@ -60,8 +67,8 @@ fn is_done<R: Abort>(rt: &R, answer: Result<(), Fault>, lasts: bool, expected: F
         }
         Err(fault) => {
             assert!(rt;
-                fault == Fault::Memory || fault == expected && !lasts,
-                "{fault}"
+                fault == Failure::Memory || fault == expected && !lasts,
+                "{fault:?}"
             );
             false
         }
@@ -76,12 +83,15 @@ pub fn reads_fail(rt: &(impl Abort + AllocGlobal), command: Command, input: &str
         for reads in 0..60u32 {
             let (result, kept) = outcome(rt.alloc(), command, input.as_bytes(), most, reads, 1000);
             let lasts = usize::try_from(reads).is_ok_and(|reads| reads > needed);
-            let is_done = is_done(rt, result, lasts, Fault::ReadInput);
+            let is_done = is_done(rt, result, lasts, Failure::ReadInput);
             let expected = if is_done { output } else { "" };
             assert_eq!(rt; kept.as_slice(), expected.as_bytes(), "{most} {reads}");
         }
     }
 }
+
+// The failure of `Kept`.
+const CLOSED: Failure<Fault> = Failure::WriteOutput { is_closed: true };
 
 /// Each write fails in turn, and then a prefix of the output was written.
 pub fn writes_fail(rt: &(impl Abort + AllocGlobal), command: Command, input: &str, output: &str) {
@@ -90,7 +100,7 @@ pub fn writes_fail(rt: &(impl Abort + AllocGlobal), command: Command, input: &st
         for writes in 0..60u32 {
             let (result, kept) = outcome(rt.alloc(), command, input.as_bytes(), most, 1000, writes);
             let lasts = usize::try_from(writes).is_ok_and(|writes| writes >= needed);
-            let is_done = is_done(rt, result, lasts, Fault::WriteOutput);
+            let is_done = is_done(rt, result, lasts, CLOSED);
             let is_whole = kept.as_slice().len() == output.len();
             assert!(rt;
                 output.as_bytes().starts_with(kept.as_slice()),

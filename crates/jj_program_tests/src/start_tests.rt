@@ -6,6 +6,7 @@ mod tests {
     use jj_files::file_util::Watched;
     use jj_program::program::start;
     use std::alloc::Global;
+    use std::io::ErrorKind;
 
     const OUT_OF_MEMORY: &str = "jj-core: out of memory\n";
 
@@ -53,16 +54,18 @@ mod tests {
             return;
         };
         let words = [word];
-        for (reads, writes, said) in [
-            (0, 1, "jj-core: cannot read input\n"),
-            (1000, 0, "jj-core: cannot write output\n"),
+        for (reads, writes, kind, said) in [
+            (0, 1, ErrorKind::Other, "jj-core: cannot read input\n"),
+            (1000, 0, ErrorKind::Other, "jj-core: cannot write output\n"),
+            // Nothing is said of an output that its reader has closed.
+            (1000, 0, ErrorKind::BrokenPipe, ""),
         ] {
             let mut reader = Watched::new(Cut {
                 rest: b"mark\ta\neverything\n",
                 most: 1000,
                 left: reads,
             });
-            let mut output = Kept::new(1000, writes);
+            let mut output = Kept::failing(1000, writes, kind);
             let mut errors = Kept::new(1000, 1000);
             let status = start(
                 rt.alloc(),

@@ -13,6 +13,5 @@ returns c =
     ends line c.args.input.now (watched_inner c.new-reader.result).now (ap (λ (s : Bor (List ℕ)). s.now) c.new-reader.ensures.inner)
     (Some (watched_inner c.start-status.new.reader).now) (watched_inner c.new-writer.result).items (watched_inner c.start-status.new.writer).items c.into_inner.result.items
     (ap (λ v. v.items) c.new-writer.ensures.inner ∙ c.new.ensures.items) (ap (λ v. v.items) c.into_inner.ensures) c.start-status.result
-    (λ none. let u = c.start-status.ensures.usage none in (u.0, u.2)) c.start-status.ensures.status
-    (IfSome_then line c.start-status.ensures.success (λ command done at_zero. (done at_zero).0))
-    (IfSome_then line c.start-status.ensures.failure (λ command failure at_one. let f = failure at_one in (f.0, f.1)))
+    (λ none. let u = c.start-status.ensures.usage none in (u.0, u.2))
+    (IfSome_then line c.start-status.ensures.run (λ command run. (run.0, run.1, run.4)))
