@@ -1,15 +1,19 @@
 //! Callers of `jj_log`.
-ghost use Rattle.std.specs.Prelude.{◌≡◌, ◌<◌, ◌⊎◌, false, IfErr, IfOk};
+ghost use Rattle.std.specs.Prelude.{◌≡◌, ◌<◌, ◌⊎◌, false, IfErr, IfOk, Result};
 ghost use Rattle.jj_files.specs.Streams.{streams};
+ghost use Rattle.jj_filter.specs.Reports.{Reports};
+ghost use Rattle.jj_filter.specs.Runs.{EndsBy, IsInputFailure, is_read_failure, is_write_failure};
+ghost use Rattle.jj_filter.specs.declared.failure.Failure.{Failure};
 ghost use Rattle.jj_log.specs.Columns.{IsRow, widest_line};
 ghost use Rattle.jj_log.specs.Edges.{AreEdges, AreTargets};
 ghost use Rattle.jj_log.specs.InputLines.{AreCommitsOf, IsParseFault};
-ghost use Rattle.jj_log.specs.Reports.{Reports, report_text};
-ghost use Rattle.jj_log.specs.Runs.{FailsBy, is_read_failure, is_write_failure};
+ghost use Rattle.jj_log.specs.Reports.{report_text, status_of};
+ghost use Rattle.jj_log.specs.Runs.{DrawingsOf, IsInputFault};
 ghost use Rattle.jj_log.specs.declared.fault.Fault.{Fault as FaultValue};
 
 use jj_dag::dense_set::DenseSet;
 use jj_files::file_util::{Sink, Source};
+use jj_filter::failure::Failure;
 use jj_log::commits::{Commit, NumberedCommit};
 use jj_log::fault::{Fault, LogError};
 use jj_log::layout::{self, MAX_COLUMNS, Row};
@@ -47,10 +51,13 @@ pub fn edges_of(
 }
 
 /// `parse_commits`.
-pub fn parse_commits(alloc: Global, input: &str) -> Result<(Vec<Commit>, Vec<usize>), Fault>
+pub fn parse_commits(
+    alloc: Global,
+    input: &str,
+) -> Result<(Vec<Commit>, Vec<usize>), Failure<Fault>>
     ensures commits { IfOk result (λ parsed.
         AreCommitsOf input.now parsed.0.items parsed.1.items) }
-    ensures error { IfErr result (IsParseFault input.now) }
+    ensures error { IfErr result (IsInputFailure (IsParseFault input.now)) }
 {
     input::parse_commits(alloc, input)
 }
@@ -62,14 +69,14 @@ pub fn start<R: Source, W: Sink, E: Sink>(
     writer: &mut W,
     errors: &mut E,
 ) -> u8
-    ensures { result ≡ 1 → (fault : FaultValue) × FailsBy
+    ensures { (ended : Result (Unit {0}) (Failure FaultValue)) × EndsBy DrawingsOf IsInputFault
         (streams (R.remaining reader.old) (W.contents writer.old))
-        (streams (R.remaining reader.new) (W.contents writer.new)) fault
-        × (is_write_failure fault ≡ false → W.contents writer.new ≡ W.contents writer.old)
-        × (R.has_failed reader.old ≡ false → R.has_failed reader.new ≡ is_read_failure fault)
-        × (W.has_failed writer.old ≡ false → W.has_failed writer.new ≡ is_write_failure fault)
+        (streams (R.remaining reader.new) (W.contents writer.new)) ended
+        × (R.has_failed reader.old ≡ false → R.has_failed reader.new ≡ is_read_failure ended)
+        × (W.has_failed writer.old ≡ false → W.has_failed writer.new ≡ is_write_failure ended)
+        × (result ≡ status_of ended)
         × Reports (E.contents errors.old) (E.contents errors.new) (E.has_failed errors.new)
-        (report_text fault) }
+        (report_text ended) }
 {
-    program::start(alloc, reader, writer, errors)
+    program::start(alloc, &[], reader, writer, errors)
 }

@@ -13,4 +13,3 @@ mod DrawnRows
 mod WideRows
 mod Interning
 mod ReadLines
-mod ReportedLines

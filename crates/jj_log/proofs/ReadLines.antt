@@ -7,9 +7,12 @@ use Rattle.std.proofs.lemmas.List.Elements.{All-append, All-cons, All-from_get_o
 use Rattle.std.proofs.lemmas.List.{append-nil, map-append, reverse-reverse}
 use Rattle.std.proofs.lemmas.List.Splits.{slice_split_at, slice_split_none}
 use Rattle.std.proofs.lemmas.Str.Pattern.{IsSplitOnceResult, split_parts}
+use Rattle.jj_filter.specs.Runs.{IsInputFailure}
+use Rattle.jj_filter.specs.declared.failure.Failure.{Failure}
+use Rattle.jj_filter.proofs.InputFailures.{IsInputFailure-weaker}
 use Rattle.jj_log.specs.declared.commits.Commit.{Commit}
 use Rattle.jj_log.specs.declared.fault.Fault.{Fault}
-use Rattle.jj_log.specs.declared.fault.Fault.TheVariants.{ReadInput, NotUtf8, Memory, WriteOutput, Line}
+use Rattle.jj_log.specs.declared.fault.Fault.TheVariants.{NotUtf8, Line}
 use Rattle.jj_log.specs.InputLines.{AreCommitsOf, HasCommit, Lacks, IsCutAt, IsCommitLine, IsFaultOf, IsLineFault, IsName, IsParseFault, is_nonempty, parts_of, words_of, one_word, numbered_line, numbered_lines, commit_lines}
 
 -- 1. Strings cut at a byte.
@@ -140,7 +143,6 @@ have_commits (l ∷ lines) [] all = absurd all
 have_commits (l ∷ lines) (commit ∷ commits) (first, rest) = All-cons HasCommit l lines (commit, first) (have_commits lines commits rest)
 
 faults_more : (front part later whole : List (ℕ × List ℕ)) → whole ≡ front ++ (part ++ later) → All HasCommit front → (fault : Fault) → IsFaultOf part fault → IsFaultOf whole fault
-faults_more front part later whole is good Memory fails = tt
 faults_more front part later whole is good (Line number kind) (before, line, after, split, all, bad) = (
   front ++ before,
   line,
@@ -149,21 +151,21 @@ faults_more front part later whole is good (Line number kind) (before, line, aft
   All-append HasCommit front before good all,
   bad,
 )
-faults_more front part later whole is good ReadInput fails = absurd fails
 faults_more front part later whole is good NotUtf8 fails = absurd fails
-faults_more front part later whole is good (WriteOutput is_closed) fails = absurd fails
 
 pub fault_of_line : (input rest : List ℕ) (number : ℕ) (old : List Commit) (before line : List ℕ) (left : List (ℕ × List ℕ)) → IsParsing input rest number old before
-    → numbered_lines number (parts_of 10 rest) ≡ numbered_line number line ++ left → (fault : Fault) → IsFaultOf (numbered_line number line) fault → IsParseFault input fault
-fault_of_line input rest number old before line left so next fault is =
-    faults_more so.parsed (numbered_line number line) left (commit_lines input) (sym so.split ∙ ap (λ l. so.parsed ++ l) next) (have_commits so.parsed old so.lines) fault is
+    → numbered_lines number (parts_of 10 rest) ≡ numbered_line number line ++ left → (failure : Failure Fault) → IsInputFailure (IsFaultOf (numbered_line number line)) failure → IsInputFailure (IsParseFault input) failure
+fault_of_line input rest number old before line left so next failure is =
+    IsInputFailure-weaker (IsFaultOf (numbered_line number line)) (IsParseFault input)
+    (λ fault fails. faults_more so.parsed (numbered_line number line) left (commit_lines input) (sym so.split ∙ ap (λ l. so.parsed ++ l) next) (have_commits so.parsed old so.lines) fault fails)
+    failure is
 
-pub line_fault : (number : ℕ) (line : List ℕ) (fault : Fault) → (length line ≡ 0 → ⊥) → IsLineFault number line fault → IsFaultOf (numbered_line number line) fault
-line_fault number line Memory other is = tt
+line_fault : (number : ℕ) (line : List ℕ) (fault : Fault) → (length line ≡ 0 → ⊥) → IsLineFault number line fault → IsFaultOf (numbered_line number line) fault
 line_fault number line (Line at kind) other (same, bad) = ([], line, [], rw (one_line number line other, same) refl, All-nil HasCommit, bad)
-line_fault number line ReadInput other is = absurd is
 line_fault number line NotUtf8 other is = absurd is
-line_fault number line (WriteOutput is_closed) other is = absurd is
+
+pub line_failure : (number : ℕ) (line : List ℕ) (failure : Failure Fault) → (length line ≡ 0 → ⊥) → IsInputFailure (IsLineFault number line) failure → IsInputFailure (IsFaultOf (numbered_line number line)) failure
+line_failure number line failure other is = IsInputFailure-weaker (IsLineFault number line) (IsFaultOf (numbered_line number line)) (λ fault fails. line_fault number line fault other fails) failure is
 
 pub not_from : (b : Bool) → (b ≡ true → ⊥) → not b ≡ true
 not_from true other = absurd (other refl)

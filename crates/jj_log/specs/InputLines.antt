@@ -6,7 +6,7 @@ use Rattle.std.specs.List.{AllZip, slice_split}
 use Rattle.jj_log.specs.LogDrawings.{IsDrawing}
 use Rattle.jj_log.specs.declared.commits.Commit.{Commit}
 use Rattle.jj_log.specs.declared.fault.Fault.{Fault}
-use Rattle.jj_log.specs.declared.fault.Fault.TheVariants.{Memory, Line}
+use Rattle.jj_log.specs.declared.fault.Fault.TheVariants.{Line}
 use Rattle.jj_log.specs.declared.fault.LineFault.{LineFault}
 use Rattle.jj_log.specs.declared.fault.LineFault.TheVariants.{MissingParents, BadName}
 
@@ -53,9 +53,8 @@ IsBadLine line MissingParents = Lacks 9 line
 IsBadLine line BadName = (name fields : List ℕ) × IsCutAt 9 line name fields × (IsName name → ⊥)
 IsBadLine line fault = ⊥
 
--- the fault is that of the line with this number, or memory ran out
+-- the fault is that of the line with this number
 abbrev pub IsLineFault : ℕ → List ℕ → Fault → Type 0
-IsLineFault number line Memory = Unit {0}
 IsLineFault number line (Line at kind) = (at ≡ number) × IsBadLine line kind
 IsLineFault number line fault = ⊥
 
@@ -84,15 +83,14 @@ pub record AreCommitsOf (input : List ℕ) (commits : List Commit) (numbers : Li
 abbrev pub HasCommit : ℕ × List ℕ → Type 0
 HasCommit line = (commit : Commit) × IsCommitLine line.1 commit
 
--- the fault is that of one of these lines, and those before it have commits; or memory ran out
+-- the fault is that of one of these lines, and those before it have commits
 abbrev pub IsFaultOf : List (ℕ × List ℕ) → Fault → Type 0
-IsFaultOf lines Memory = Unit {0}
 IsFaultOf lines (Line number kind) = (before : List (ℕ × List ℕ)) × (line : List ℕ)
     × (later : List (ℕ × List ℕ)) × (lines ≡ before ++ (number, line) ∷ later)
     × All HasCommit before × IsBadLine line kind
 IsFaultOf lines fault = ⊥
 
--- the first line of the input that has no commit has the fault, or memory ran out
+-- the first line of the input that has no commit has the fault
 abbrev pub IsParseFault : List ℕ → Fault → Type 0
 IsParseFault input fault = IsFaultOf (commit_lines input) fault
 

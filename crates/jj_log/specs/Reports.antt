@@ -1,11 +1,12 @@
--- Messages of faults, and the line on standard error.
--- Cited by contracts of public items: Reports, fault_text, report_text.
-use Rattle.std.specs.Prelude.{◌≡◌, ◌++◌, ◌∷◌, [], ℕ, Bool, false, if◌then◌else◌, List, Option, codes}
+-- Messages of faults, and what standard error says of a run.
+-- Cited by contracts of public items: fault_text, report_text, status_of.
+use Rattle.std.specs.Prelude.{◌++◌, ℕ, [], List, Result, codes}
 use Rattle.std.specs.Fmt.{decimal}
-use Rattle.std.specs.Io.KnownBytes.{Appends}
-use Rattle.jj_files.specs.Streams.{AppendsPrefixOf}
+use Rattle.jj_filter.specs.Reports.{report_line}
+use Rattle.jj_filter.specs.Runs.{ended_status, ended_text}
+use Rattle.jj_filter.specs.declared.failure.Failure.{Failure}
 use Rattle.jj_log.specs.declared.fault.Fault.{Fault}
-use Rattle.jj_log.specs.declared.fault.Fault.TheVariants.{ReadInput, NotUtf8, Memory, WriteOutput, Line}
+use Rattle.jj_log.specs.declared.fault.Fault.TheVariants.{NotUtf8, Line}
 use Rattle.jj_log.specs.declared.fault.LineFault.{LineFault}
 use Rattle.jj_log.specs.declared.fault.LineFault.TheVariants.{MissingParents, BadName, RepeatedName, Cycle, TooWide}
 
@@ -17,23 +18,12 @@ line_fault_text Cycle = codes "cycle of parents"
 line_fault_text TooWide = codes "more than 500 columns"
 
 abbrev pub fault_text : Fault → List ℕ
-fault_text ReadInput = codes "cannot read input"
 fault_text NotUtf8 = codes "input is not UTF-8"
-fault_text Memory = codes "out of memory"
-fault_text (WriteOutput is_closed) = codes "cannot write output"
 fault_text (Line line kind) = codes "line " ++ decimal line ++ codes ": " ++ line_fault_text kind
 
--- the reader of the output has closed it
-abbrev pub is_closed_output : Fault → Bool
-is_closed_output (WriteOutput is_closed) = is_closed
-is_closed_output fault = false
+-- the line that reports how a run ended, and its exit status
+abbrev pub report_text : Result (Unit {0}) (Failure Fault) → List ℕ
+report_text ended = report_line (codes "jj-log") (ended_text (λ _. []) fault_text ended)
 
--- the line about a fault; none about an output that was closed
-abbrev pub report_text : Fault → List ℕ
-report_text fault = if is_closed_output fault then []
-    else (codes "jj-log: " ++ fault_text fault ++ 10 ∷ [])
-
--- the line was appended, or a prefix of it by a sink that then failed
-abbrev pub Reports : Option (List ℕ) → Option (List ℕ) → (failed : Bool) → List ℕ → Type 0
-Reports old new failed line =
-    AppendsPrefixOf old new line × (failed ≡ false → Appends old new line)
+abbrev pub status_of : Result (Unit {0}) (Failure Fault) → ℕ
+status_of = ended_status (λ _. 0) (λ _. 1)

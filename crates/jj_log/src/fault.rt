@@ -1,14 +1,12 @@
 //! Error types of the log.
-ghost use Rattle.std.specs.Prelude.{◌≡◌, ◌++◌, Some};
-ghost use Rattle.jj_log.specs.Reports.{fault_text, is_closed_output, line_fault_text};
-ghost use Rattle.jj_log.specs.declared.fault.Fault.{Fault};
+ghost use Rattle.std.specs.Prelude.{◌≡◌};
+ghost use Rattle.jj_log.specs.Reports.{fault_text, line_fault_text};
 ghost use Rattle.jj_log.specs.declared.fault.LogError.{LogError};
 
 use crate::layout::MAX_COLUMNS;
 use itoa::Buffer;
+use jj_filter::report::Report;
 use std::alloc::{AllocError, AllocFailed};
-use std::error::Error;
-use std::fmt;
 
 /// An error in a line of the input.
 #[derive(Clone, Copy, Debug, PartialEq, Eq)]
@@ -38,14 +36,10 @@ pub enum LogError {
     TooWide(usize),
 }
 
-/// An error of a run of the program.
+/// An error of an input.
 #[derive(Clone, Copy, Debug, PartialEq, Eq)]
 pub enum Fault {
-    ReadInput,
     NotUtf8,
-    Memory,
-    /// `is_closed` is whether the reader of the output has closed it.
-    WriteOutput { is_closed: bool },
     Line { line: usize, kind: LineFault },
 }
 
@@ -66,53 +60,20 @@ impl LineFault {
     }
 }
 
-impl Fault {
-    // Whether the reader of the output has closed it.
-    pub(crate) fn is_closed_output(self) -> bool
-        ensures { result ≡ is_closed_output self }
-    {
-        matches!(self, Fault::WriteOutput { is_closed: true })
-    }
+impl Report for Fault {
+    ghost text = { fault_text };
 
-    // The message as four parts to be concatenated; a number is formatted into `digits`.
-    pub(crate) fn as_parts(self, digits: &mut Buffer) -> (&str, &str, &str, &str)
-        ensures { result.0.now ++ result.1.now ++ result.2.now ++ result.3.now ≡ fault_text self }
-    {
-        match self {
-            Fault::ReadInput => ("cannot read input", "", "", ""),
+    ghost status = { λ _. 1 };
+
+    fn parts<'a>(&'a self, digits: &'a mut Buffer) -> (&'a str, &'a str, &'a str, &'a str) {
+        match *self {
             Fault::NotUtf8 => ("input is not UTF-8", "", "", ""),
-            Fault::Memory => ("out of memory", "", "", ""),
-            Fault::WriteOutput { is_closed: _ } => ("cannot write output", "", "", ""),
             Fault::Line { line, kind } => ("line ", digits.format(line), ": ", kind.as_str()),
         }
     }
-}
 
-impl fmt::Display for Fault {
-    ghost output = { λ fault. Some (fault_text fault) };
-
-    fn fmt<W: fmt::Write>(&self, f: &mut fmt::Formatter<W>) -> fmt::Result {
-        let mut digits = Buffer::new();
-        let (first, second, third, fourth) = self.as_parts(&mut digits);
-        write!(f, "{first}{second}{third}{fourth}")
-    }
-}
-
-impl Error for Fault {}
-
-impl From<AllocError> for Fault {
-    ghost from_gives = { λ _ error. error ≡ Fault.Memory };
-
-    fn from(_error: AllocError) -> Self {
-        Fault::Memory
-    }
-}
-
-impl<T: Drop> From<AllocFailed<T>> for Fault {
-    ghost from_gives = { λ _ error. error ≡ Fault.Memory };
-
-    fn from(_error: AllocFailed<T>) -> Self {
-        Fault::Memory
+    fn status(&self) -> u8 {
+        1
     }
 }
 

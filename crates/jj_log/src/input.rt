@@ -1,11 +1,13 @@
 //! Parser of the input: a commit a line.
 ghost use Rattle.std.specs.Prelude.{◌≡◌, ◌++◌, ◌↔◌, List, IfOk, IfErr, OnOk, map, string_bytes, true};
 ghost use Rattle.std.specs.List.{AllZip};
+ghost use Rattle.jj_filter.specs.Runs.{IsInputFailure};
 ghost use Rattle.jj_log.specs.InputLines.{AreCommitsOf, IsCommitLine, IsFaultOf, IsLineFault, IsName, IsParseFault, numbered_line, one_word, words_of};
 ghost use Rattle.jj_log.specs.declared.commits.Commit.{Commit};
 
 use crate::commits::Commit;
 use crate::fault::{Fault, LineFault};
+use jj_filter::failure::Failure;
 use std::alloc::{AllocError, Global};
 
 fn is_name(name: &str) -> bool
@@ -40,21 +42,21 @@ fn parse_parents(alloc: Global, field: &str) -> Result<Vec<String>, AllocError>
 }
 
 // Parses a line: name TAB parents, and TAB label if the commit is visible.
-fn parse_line(alloc: Global, number: usize, line: &str) -> Result<Commit, Fault>
+fn parse_line(alloc: Global, number: usize, line: &str) -> Result<Commit, Failure<Fault>>
     ensures commit { IfOk result (IsCommitLine line.now) }
-    ensures error { IfErr result (IsLineFault number line.now) }
+    ensures error { IfErr result (IsInputFailure (IsLineFault number line.now)) }
 {
     let Some((name, fields)) = line.split_once('\t') else {
-        return Err(Fault::Line {
+        return Err(Failure::Input(Fault::Line {
             line: number,
             kind: LineFault::MissingParents,
-        });
+        }));
     };
     if !is_name(name) {
-        return Err(Fault::Line {
+        return Err(Failure::Input(Fault::Line {
             line: number,
             kind: LineFault::BadName,
-        });
+        }));
     }
     let (field, label) = match fields.split_once('\t') {
         Some((field, label)) => (field, Some(String::from_str(alloc, label)?)),
@@ -74,13 +76,13 @@ fn push_commit(
     numbers: &mut Vec<usize>,
     number: usize,
     line: &str,
-) -> Result<(), Fault>
+) -> Result<(), Failure<Fault>>
     ensures commits { OnOk result ((added : List Commit)
         × (commits.new.items ≡ commits.old.items ++ added)
         × AllZip IsCommitLine (map (λ l. l.1) (numbered_line number line.now)) added) }
     ensures numbers { OnOk result (numbers.new.items
         ≡ numbers.old.items ++ map (λ l. l.0) (numbered_line number line.now)) }
-    ensures error { IfErr result (IsFaultOf (numbered_line number line.now)) }
+    ensures error { IfErr result (IsInputFailure (IsFaultOf (numbered_line number line.now))) }
 {
     if !line.is_empty() {
         commits.push(parse_line(alloc, number, line)?)?;
@@ -92,10 +94,13 @@ fn push_commit(
 /// Parses the lines of the input. Returns the commits, the last first, and the number of the line
 /// of each. Skips empty lines. Fails with `Line` at the first line without a TAB or with a bad
 /// name, and with `Memory` if memory runs out.
-pub fn parse_commits(alloc: Global, input: &str) -> Result<(Vec<Commit>, Vec<usize>), Fault>
+pub fn parse_commits(
+    alloc: Global,
+    input: &str,
+) -> Result<(Vec<Commit>, Vec<usize>), Failure<Fault>>
     ensures commits { IfOk result (λ parsed.
         AreCommitsOf input.now parsed.0.items parsed.1.items) }
-    ensures error { IfErr result (IsParseFault input.now) }
+    ensures error { IfErr result (IsInputFailure (IsParseFault input.now)) }
 {
     // Each line but the last ends in a byte of the input, so the number does not overflow.
     let _len = input.len();

@@ -1,46 +1,27 @@
-//! Entry points of the program: read the whole input, draw its log, write the whole output.
-ghost use Rattle.std.specs.Prelude.{◌≡◌, ◌≢◌, ℕ, ◌<◌, false, List, IfOk, IfErr, OnOk, flat_map, get_or, string_bytes};
-ghost use Rattle.std.specs.Io.KnownBytes.{Consumes, IsAtEnd};
+//! Entry points of the program: the log as a filter, and the command line.
+ghost use Rattle.std.specs.Prelude.{◌≡◌, ◌≢◌, ◌⊎◌, ℕ, [], List, Result, IfOk, IfErr, false, get_or, string_bytes};
 ghost use Rattle.jj_files.specs.Streams.{streams};
+ghost use Rattle.jj_filter.specs.Reports.{Reports};
+ghost use Rattle.jj_filter.specs.Runs.{EndsBy, IsInputFailure, is_read_failure, is_write_failure};
+ghost use Rattle.jj_filter.specs.declared.failure.Failure.{Failure};
 ghost use Rattle.jj_log.specs.InputLines.{AreCommitsOf, DrawsInput};
 ghost use Rattle.jj_log.specs.LogDrawings.{IsLogError};
-ghost use Rattle.jj_log.specs.Reports.{Reports, report_text};
-ghost use Rattle.jj_log.specs.Runs.{FailsBy, IsInputFault, WritesLog, is_read_failure, is_read_fault, is_write_failure, is_write_fault};
+ghost use Rattle.jj_log.specs.Reports.{report_text, status_of};
+ghost use Rattle.jj_log.specs.Runs.{DrawingsOf, IsInputFault};
 ghost use Rattle.jj_log.specs.declared.commits.Commit.{Commit};
 ghost use Rattle.jj_log.specs.declared.fault.Fault.{Fault};
 
 use crate::fault::{Fault, LineFault, LogError};
 use crate::input::parse_commits;
 use crate::log::draw_log;
-use itoa::Buffer;
-use jj_files::file_util::{Sink, Source, write_all};
+use jj_excerpts::excerpt;
+use jj_files::file_util::{Sink, Source};
+use jj_filter::arguments::VERSION;
+use jj_filter::failure::Failure;
+use jj_filter::filter;
+use jj_filter::filter::Filter;
+use jj_filter::report::write_parts;
 use std::alloc::Global;
-use std::io::ErrorKind;
-
-const READ_BUFFER: usize = 65536;
-
-fn read_input<R: Source>(alloc: Global, reader: &mut R) -> Result<Vec<u8>, Fault>
-    ensures all { IfOk result (λ input. Consumes (R.remaining reader.old)
-        (R.remaining reader.new) input.items) }
-    ensures end { OnOk result (IsAtEnd (R.remaining reader.new)) }
-    ensures failure { R.has_failed reader.old ≡ false
-        → R.has_failed reader.new ≡ is_read_fault result }
-    ensures faults { IfErr result (λ fault. fault ≢ Fault.ReadInput → fault ≡ Fault.Memory) }
-{
-    let mut input = Vec::new(alloc);
-    let mut buf = [0u8; READ_BUFFER];
-    loop {
-        let Ok(n) = reader.read(&mut buf) else {
-            return Err(Fault::ReadInput);
-        };
-        if n == 0 {
-            return Ok(input);
-        }
-        if input.extend_from_slice(&buf[..n]).is_err() {
-            return Err(Fault::Memory);
-        }
-    }
-}
 
 fn line_at(lines: &[usize], index: usize) -> usize
     ensures { result ≡ get_or lines.now index 0 }
@@ -48,124 +29,129 @@ fn line_at(lines: &[usize], index: usize) -> usize
     lines.get(index).copied().unwrap_or(0)
 }
 
-fn fault_of(error: LogError, lines: &[usize]) -> Fault
+fn line_fault(lines: &[usize], index: usize, kind: LineFault) -> Failure<Fault>
+    ensures { result ≡ Failure.Input (Fault.Line (get_or lines.now index 0) kind) }
+{
+    Failure::Input(Fault::Line {
+        line: line_at(lines, index),
+        kind,
+    })
+}
+
+fn failure_of(error: LogError, lines: &[usize]) -> Failure<Fault>
     ensures { (input : List ℕ) (commits : List Commit) → AreCommitsOf input commits lines.now
-        → IsLogError commits error → IsInputFault input result }
+        → IsLogError commits error → IsInputFailure (IsInputFault input) result }
 {
     match error {
-        LogError::Memory => Fault::Memory,
-        LogError::RepeatedName(index) => Fault::Line {
-            line: line_at(lines, index),
-            kind: LineFault::RepeatedName,
-        },
-        LogError::Cycle(index) => Fault::Line {
-            line: line_at(lines, index),
-            kind: LineFault::Cycle,
-        },
-        LogError::TooWide(index) => Fault::Line {
-            line: line_at(lines, index),
-            kind: LineFault::TooWide,
-        },
+        LogError::Memory => Failure::Memory,
+        LogError::RepeatedName(index) => line_fault(lines, index, LineFault::RepeatedName),
+        LogError::Cycle(index) => line_fault(lines, index, LineFault::Cycle),
+        LogError::TooWide(index) => line_fault(lines, index, LineFault::TooWide),
     }
 }
 
 // Returns the drawing of the commits of the input.
-fn output(alloc: Global, input: &[u8]) -> Result<String, Fault>
+fn output(alloc: Global, input: &[u8]) -> Result<String, Failure<Fault>>
     ensures draws { IfOk result (λ drawing. DrawsInput input.now (string_bytes drawing)) }
-    ensures error { IfErr result (IsInputFault input.now) }
+    ensures error { IfErr result (IsInputFailure (IsInputFault input.now)) }
 {
     let Ok(input) = str::from_utf8(input) else {
-        return Err(Fault::NotUtf8);
+        return Err(Failure::Input(Fault::NotUtf8));
     };
     let (commits, lines) = parse_commits(alloc, input)?;
     match draw_log(alloc, &commits) {
         Ok(drawing) => Ok(drawing),
-        Err(error) => Err(fault_of(error, &lines)),
+        Err(error) => Err(failure_of(error, &lines)),
     }
 }
 
-/// Reads the source to its end and writes the drawing of its commits. Fails where reading, writing,
-/// the UTF-8 of the input, a line of it or memory fails, and has then written nothing unless
-/// writing failed.
-pub fn run<R: Source, W: Sink>(alloc: Global, reader: &mut R, writer: &mut W) -> Result<(), Fault>
-    ensures done { OnOk result (WritesLog
-        (streams (R.remaining reader.old) (W.contents writer.old))
-        (streams (R.remaining reader.new) (W.contents writer.new))) }
-    ensures unwritten { IfErr result (λ fault. is_write_failure fault ≡ false
-        → W.contents writer.new ≡ W.contents writer.old) }
-    ensures fails { IfErr result (FailsBy
-        (streams (R.remaining reader.old) (W.contents writer.old))
-        (streams (R.remaining reader.new) (W.contents writer.new))) }
-    ensures read_failure { R.has_failed reader.old ≡ false
-        → R.has_failed reader.new ≡ is_read_fault result }
-    ensures write_failure { W.has_failed writer.old ≡ false
-        → W.has_failed writer.new ≡ is_write_fault result }
-{
-    let input = read_input(alloc, reader)?;
-    let output = output(alloc, &input)?;
-    if let Err(error) = write_all(writer, output.as_bytes()) {
-        return Err(Fault::WriteOutput {
-            is_closed: error.kind() == ErrorKind::BrokenPipe,
-        });
-    }
-    Ok(())
-}
+/// The filter of `jj-log`: draws the commits of the lines of the input.
+#[derive(Clone, Copy, Debug)]
+pub struct Log;
 
-// Writes these parts of a line, and stops silently at the first write that fails.
-fn write_parts<E: Sink>(errors: &mut E, parts: &[&str])
-    ensures { Reports (E.contents errors.old) (E.contents errors.new) (E.has_failed errors.new)
-        (flat_map (λ part. part.now) parts.now) }
-{
-    for index in 0..parts.len() {
-        if write_all(errors, parts[index].as_bytes()).is_err() {
-            return;
-        }
+impl Filter for Log {
+    ghost use Rattle.jj_log.specs.InputLines.{DrawsInput};
+    ghost use Rattle.jj_log.specs.Runs.{IsInputFault};
+
+    type Outcome = ();
+
+    type Fault = Fault;
+
+    ghost yields = { λ _ input drawing _. DrawsInput input drawing };
+
+    ghost fails = { λ _ input fault. IsInputFault input fault };
+
+    fn output(&self, alloc: Global, input: &[u8]) -> Result<(Vec<u8>, ()), Failure<Fault>> {
+        Ok((output(alloc, input)?.into_bytes(), ()))
     }
 }
 
-// Reports nothing if the reader of the output has closed it, as `head` does.
-fn report_fault<E: Sink>(errors: &mut E, fault: Fault)
-    ensures { Reports (E.contents errors.old) (E.contents errors.new) (E.has_failed errors.new)
-        (report_text fault) }
-{
-    if fault.is_closed_output() {
-        return;
-    }
-    let mut digits = Buffer::new();
-    let (first, second, third, fourth) = fault.as_parts(&mut digits);
-    write_parts(errors, &["jj-log: ", first, second, third, fourth, "\n"]);
-}
+/// The name in messages.
+pub const NAME: &str = "jj-log";
 
-/// Runs the program, and returns its exit status: 0, or 1 after a fault, with a line about it on
-/// `errors` unless the output was closed. Error reporting does not allocate; a failing `errors`
-/// does not change the status.
+const SYNOPSIS: &str = "usage: jj-log < COMMITS\n";
+
+const HELP: &str = "
+Draws commits as a graph. A line is a commit: its name, a TAB, its parents, separated by blanks, a
+TAB, and its label. A commit without the second TAB is not drawn.
+
+  git log --format='%h%x09%p%x09%h %s' | jj-log
+
+  -h, --help       this help
+  -V, --version    the version
+
+Status: 0, 1 after a fault, 2 after a wrong option.
+
+";
+
+/// Runs the program with these arguments (without the program's name), and returns its exit status.
+///
+/// Without arguments it draws the commits of the input. It returns 0 when the drawing was written,
+/// 1 after a failure, with a line about it on `errors` unless the output was closed, and 2 after a
+/// wrong argument. A failing `errors` does not change the status.
 pub fn start<R: Source, W: Sink, E: Sink>(
     alloc: Global,
+    words: &[String],
     reader: &mut R,
     writer: &mut W,
     errors: &mut E,
 ) -> u8
-    ensures status { result < 2 }
-    ensures success { result ≡ 0 → WritesLog
+    // Without arguments the filter was run; status and line are those of how the run ended.
+    ensures run { words.now ≡ [] → (ended : Result (Unit {0}) (Failure Fault))
+        × EndsBy DrawingsOf IsInputFault
         (streams (R.remaining reader.old) (W.contents writer.old))
-        (streams (R.remaining reader.new) (W.contents writer.new))
-        × (R.has_failed reader.old ≡ false → R.has_failed reader.new ≡ false)
-        × (W.has_failed writer.old ≡ false → W.has_failed writer.new ≡ false)
-        × (E.contents errors.new ≡ E.contents errors.old) }
-    ensures failure { result ≡ 1 → (fault : Fault) × FailsBy
-        (streams (R.remaining reader.old) (W.contents writer.old))
-        (streams (R.remaining reader.new) (W.contents writer.new)) fault
-        × (is_write_failure fault ≡ false → W.contents writer.new ≡ W.contents writer.old)
-        × (R.has_failed reader.old ≡ false → R.has_failed reader.new ≡ is_read_failure fault)
-        × (W.has_failed writer.old ≡ false → W.has_failed writer.new ≡ is_write_failure fault)
+        (streams (R.remaining reader.new) (W.contents writer.new)) ended
+        × (R.has_failed reader.old ≡ false → R.has_failed reader.new ≡ is_read_failure ended)
+        × (W.has_failed writer.old ≡ false → W.has_failed writer.new ≡ is_write_failure ended)
+        × (result ≡ status_of ended)
         × Reports (E.contents errors.old) (E.contents errors.new) (E.has_failed errors.new)
-        (report_text fault) }
+        (report_text ended) }
+    // With arguments nothing is read.
+    ensures other { words.now ≢ [] → (R.remaining reader.new ≡ R.remaining reader.old)
+        × ((result ≡ 0) ⊎ (result ≡ 2)) }
 {
-    match run(alloc, reader, writer) {
-        Ok(()) => 0,
-        Err(fault) => {
-            report_fault(errors, fault);
-            1
-        }
+    match words {
+        [] => filter::start(alloc, NAME, &Log, reader, writer, errors),
+        [word, ..] => perform(alloc, word.as_str(), writer, errors),
     }
+}
+
+fn perform<W: Sink, E: Sink>(alloc: Global, word: &str, writer: &mut W, errors: &mut E) -> u8
+    ensures { (result ≡ 0) ⊎ (result ≡ 2) }
+{
+    if word == "-h" || word == "--help" {
+        write_parts(writer, &[SYNOPSIS, HELP]);
+        return 0;
+    }
+    if word == "-V" || word == "--version" {
+        write_parts(writer, &["jj-log in Rattle ", VERSION, "\n"]);
+        return 0;
+    }
+    if let Ok(word) = excerpt(alloc, word.as_bytes()) {
+        write_parts(
+            errors,
+            &["jj-log: unknown argument ", word.as_str(), "\n", SYNOPSIS],
+        );
+    }
+    2
 }

@@ -1,9 +1,0 @@
--- The parts so far are written.
-use Rattle.std.proofs.Common.{take}
-use Rattle.std.specs.Io.KnownBytes.{Appends}
-use Rattle.jj_log.proofs.ReportedLines.{line_of}
-use Rattle.jj_log.proofs.program.write_parts.Given as goal
-
-abbrev pub invariant-loop-index : goal.invariant-loop-index
-invariant-loop-index g l =
-    Appends (g.E.Sink.contents l.initial.errors) (g.E.Sink.contents l.errors) (line_of (take l.index l.parts))
