@@ -1,77 +1,152 @@
-//! A run: reads the whole input, selects lines, writes the whole output.
-ghost use Rattle.std.specs.Prelude.{◌≡◌, ◌≢◌, false, IfOk, IfErr, OnOk, string_bytes};
-ghost use Rattle.std.specs.Io.KnownBytes.{Consumes, IsAtEnd};
+//! The selection of lines as a filter, and the command line.
+ghost use Rattle.std.specs.Prelude.{◌≡◌, ◌⊎◌, ℕ, List, Result, IfOk, IfErr, codes, false, map, string_bytes};
 ghost use Rattle.jj_files.specs.Streams.{streams};
 ghost use Rattle.jj_filesets.specs.Expressions.{Spells};
-ghost use Rattle.jj_filesets_cli.specs.Runs.{WritesSet, IsSelection, FailsBy, IsExpressionFault, IsInputFault, is_read_fault, is_write_failure, is_write_fault, place_at};
-ghost use Rattle.jj_filesets_cli.specs.declared.fault.Fault.{Fault};
+ghost use Rattle.jj_filesets.specs.Listing.{IsListError};
+ghost use Rattle.jj_filesets.specs.SyntaxTrees.{SyntaxTree};
+ghost use Rattle.jj_filesets.specs.declared.listing.ListOptions.{ListOptions as ListOptionsValue};
+ghost use Rattle.jj_filter.specs.Reports.{Reports, report_line};
+ghost use Rattle.jj_filter.specs.Runs.{EndsBy, IsInputFailure, is_read_failure, is_write_failure};
+ghost use Rattle.jj_filter.specs.declared.failure.Failure.{Failure};
+ghost use Rattle.jj_filesets_cli.specs.CommandLines.{command_line};
+ghost use Rattle.jj_filesets_cli.specs.Runs.{IsExpressionFault, IsFaultOfList, IsRefusedBy, Selects, command_error_status, command_error_text, place_at, report_text, status_of};
+ghost use Rattle.jj_filesets_cli.specs.declared.fault.CommandError.{CommandError as CommandErrorValue};
+ghost use Rattle.jj_filesets_cli.specs.declared.fault.ListFault.{ListFault};
+ghost use Rattle.jj_filesets_cli.specs.declared.outcome.Outcome.{Outcome as OutcomeValue};
 
-use crate::fault::Fault;
+use crate::arguments::{CommandLine, Task, UsageError, parse_words};
+use crate::fault::{CommandError, ExpressionFault, ListFault};
+use crate::outcome::Outcome;
 use jj_excerpts::excerpt;
-use jj_files::file_util::{Sink, Source, write_all};
+use jj_files::file_util::{Sink, Source};
 use jj_filesets::fileset::{FilesetExpression, FilesetParseError};
-use jj_filesets::listing::{ListError, ListOptions, SelectedLines, select_lines};
+use jj_filesets::listing::{ListError, ListOptions, select_lines};
+use jj_filter::arguments::VERSION;
+use jj_filter::failure::Failure;
+use jj_filter::filter;
+use jj_filter::filter::Filter;
+use jj_filter::report::{write_parts, write_report};
 use std::alloc::{AllocError, Global};
-use std::io::ErrorKind;
 
-// Bytes per read.
-const READ_BUFFER: usize = 65536;
+// The name in messages.
+pub(crate) const NAME: &str = "jj-filesets";
 
-// A run that succeeded: whether no line is in the set, and how many lines are no paths.
-#[derive(Clone, Copy)]
-pub(crate) struct Outcome {
-    pub(crate) is_empty: bool,
-    pub(crate) invalid: usize,
-}
+const SYNOPSIS: &str =
+    "usage: jj-filesets [-z] [--skip-invalid] [--fail-if-none] EXPRESSION < LIST\n";
 
-// Parses the expression, reads a list to the end of the source, and writes its lines that are in
-// the set. Nothing is written unless the whole input is valid.
-pub(crate) fn run<R: Source, W: Sink>(
-    alloc: Global,
-    expression: &str,
+const HELP: &str = "
+Prints the lines of a list of paths that are in a file set, as src/** & ~tests.
+
+  -z, --null         lines end in NUL, as those of git ls-files -z
+  --skip-invalid     skip lines that are no paths, and count them on stderr
+  --fail-if-none     status 1 if no line is in the set
+  -h, --help         this help
+  -V, --version      the version
+
+  src                src and the paths below it
+  file:src           src itself
+  'src/*.rs'         the paths that the glob matches, and those below them
+  'glob:src/*.rs'    the paths that the glob matches
+  'all()' 'none()'   every path, no path
+  '~x' 'x & y'       complement, intersection
+  'x ~ y' 'x | y'    difference, union
+
+Status: 0, 1 after a fault of the list, 2 after a wrong option or expression.
+
+";
+
+// The lines of a list that are in a set.
+#[derive(Drop)]
+pub(crate) struct Selection {
+    set: FilesetExpression,
     options: ListOptions,
-    reader: &mut R,
-    writer: &mut W,
-) -> Result<Outcome, Fault>
-    requires reader_works { R.has_failed reader.old ≡ false }
-    requires writer_works { W.has_failed writer.old ≡ false }
-    ensures done { IfOk result (λ outcome. WritesSet expression.now options
-        (streams (R.remaining reader.old) (W.contents writer.old))
-        (streams (R.remaining reader.new) (W.contents writer.new))
-        outcome.is_empty outcome.invalid) }
-    ensures unwritten { IfErr result (λ fault. is_write_failure fault ≡ false
-        → W.contents writer.new ≡ W.contents writer.old) }
-    ensures fails { IfErr result (FailsBy expression.now options
-        (streams (R.remaining reader.old) (W.contents writer.old))
-        (streams (R.remaining reader.new) (W.contents writer.new))) }
-    ensures read_failure { R.has_failed reader.new ≡ is_read_fault result }
-    ensures write_failure { W.has_failed writer.new ≡ is_write_fault result }
-{
-    let set = parse_expression(alloc, expression)?;
-    let input = read_input(alloc, reader)?;
-    let selected = select(alloc, &set, options, &input)?;
-    if let Err(error) = write_all(writer, &selected.output) {
-        return Err(Fault::WriteOutput {
-            is_closed: error.kind() == ErrorKind::BrokenPipe,
-        });
-    }
-    Ok(Outcome {
-        is_empty: selected.output.is_empty(),
-        invalid: selected.invalid,
-    })
+    fails_if_none: bool,
 }
 
-fn parse_expression(alloc: Global, text: &str) -> Result<FilesetExpression, Fault>
-    ensures spelled { IfOk result (Spells text.now) }
-    ensures error { IfErr result (IsExpressionFault text.now) }
+impl Filter for Selection {
+    ghost use Rattle.jj_filesets_cli.specs.Runs.{IsFaultOfList, Selects};
+
+    type Outcome = Outcome;
+
+    type Fault = ListFault;
+
+    ghost yields = { λ selection. Selects selection.set selection.options selection.fails_if_none };
+
+    ghost fails = { λ selection. IsFaultOfList selection.options };
+
+    fn output(
+        &self,
+        alloc: Global,
+        input: &[u8],
+    ) -> Result<(Vec<u8>, Outcome), Failure<ListFault>> {
+        match select_lines(alloc, &self.set, self.options, input) {
+            Ok(selected) => {
+                let fails = self.fails_if_none && selected.output.is_empty();
+                let outcome = Outcome {
+                    invalid: selected.invalid,
+                    status: u8::from(fails),
+                };
+                Ok((selected.output, outcome))
+            }
+            Err(error) => Err(list_failure(alloc, error)),
+        }
+    }
+}
+
+fn list_failure(alloc: Global, error: ListError) -> Failure<ListFault>
+    ensures { (options : ListOptionsValue) (input : List ℕ) → IsListError options input error
+        → IsInputFailure (IsFaultOfList options input) result }
 {
-    match FilesetExpression::parse(alloc, text) {
-        Ok(expression) => Ok(expression),
-        Err(FilesetParseError::Memory) => Err(Fault::Memory),
-        Err(FilesetParseError::Syntax { at, kind }) => match place_at(alloc, text.as_bytes(), at) {
-            Ok(place) => Err(Fault::Expression { at, place, kind }),
-            Err(AllocError) => Err(Fault::Memory),
-        },
+    let Ok(message) = error.to_string(alloc) else {
+        return Failure::Memory;
+    };
+    match error {
+        ListError::Memory => Failure::Memory,
+        ListError::Line {
+            number,
+            excerpt,
+            fault,
+        } => Failure::Input(ListFault {
+            number,
+            excerpt,
+            kind: fault,
+            message,
+        }),
+    }
+}
+
+// Parses the expression of a selection.
+fn selection_of(
+    alloc: Global,
+    line: CommandLine,
+    expression: &str,
+) -> Result<Selection, CommandError>
+    ensures spelled { IfOk result (λ selection. Spells expression.now selection.set) }
+    ensures options { IfOk result (λ selection. (selection.options ≡ line.options)
+        × (selection.fails_if_none ≡ line.fails_if_none)) }
+    ensures error { IfErr result (IsRefusedBy expression.now) }
+{
+    match FilesetExpression::parse(alloc, expression) {
+        Ok(set) => Ok(Selection {
+            set,
+            options: line.options,
+            fails_if_none: line.fails_if_none,
+        }),
+        Err(FilesetParseError::Memory) => Err(CommandError::Memory),
+        Err(FilesetParseError::Syntax { at, kind }) => {
+            let place = place_at(alloc, expression.as_bytes(), at)?;
+            Err(usage_error(alloc, ExpressionFault { at, place, kind }))
+        }
+    }
+}
+
+fn usage_error(alloc: Global, fault: ExpressionFault) -> CommandError
+    ensures { (expression : List ℕ) → IsExpressionFault expression fault
+        → IsRefusedBy expression result }
+{
+    match fault.to_string(alloc) {
+        Ok(message) => CommandError::Usage { fault, message },
+        Err(_) => CommandError::Memory,
     }
 }
 
@@ -86,42 +161,112 @@ fn place_at(alloc: Global, expression: &[u8], at: usize) -> Result<String, Alloc
     }
 }
 
-fn read_input<R: Source>(alloc: Global, reader: &mut R) -> Result<Vec<u8>, Fault>
-    requires { R.has_failed reader.old ≡ false }
-    ensures all { IfOk result (λ input. Consumes (R.remaining reader.old)
-        (R.remaining reader.new) input.items) }
-    ensures end { OnOk result (IsAtEnd (R.remaining reader.new)) }
-    ensures failure { R.has_failed reader.new ≡ is_read_fault result }
-    ensures faults { IfErr result (λ fault. fault ≢ Fault.ReadInput → fault ≡ Fault.Memory) }
+// Selects the lines of the source that are in the set of an expression. Nothing is read or written
+// if there is no such set, or if memory runs out before. Else the filter is run; status and line
+// are those of how the run ended.
+fn select<R: Source, W: Sink, E: Sink>(
+    alloc: Global,
+    line: CommandLine,
+    expression: &str,
+    reader: &mut R,
+    writer: &mut W,
+    errors: &mut E,
+) -> u8
+    ensures { ((error : CommandErrorValue) × IsRefusedBy expression.now error
+        × (R.remaining reader.new ≡ R.remaining reader.old)
+        × (W.contents writer.new ≡ W.contents writer.old)
+        × (result ≡ command_error_status error)
+        × Reports (E.contents errors.old) (E.contents errors.new) (E.has_failed errors.new)
+        (report_line (codes "jj-filesets") (command_error_text error)))
+        ⊎ ((set : SyntaxTree) × Spells expression.now set
+        × (ended : Result OutcomeValue (Failure ListFault))
+        × EndsBy (Selects set line.options line.fails_if_none) (IsFaultOfList line.options)
+        (streams (R.remaining reader.old) (W.contents writer.old))
+        (streams (R.remaining reader.new) (W.contents writer.new)) ended
+        × (R.has_failed reader.old ≡ false → R.has_failed reader.new ≡ is_read_failure ended)
+        × (W.has_failed writer.old ≡ false → W.has_failed writer.new ≡ is_write_failure ended)
+        × (result ≡ status_of ended)
+        × Reports (E.contents errors.old) (E.contents errors.new) (E.has_failed errors.new)
+        (report_text ended)) }
 {
-    let mut input = Vec::new(alloc);
-    let mut buf = [0u8; READ_BUFFER];
-    loop {
-        let Ok(n) = reader.read(&mut buf) else {
-            return Err(Fault::ReadInput);
-        };
-        if n == 0 {
-            return Ok(input);
-        }
-        if input.extend_from_slice(&buf[..n]).is_err() {
-            return Err(Fault::Memory);
+    match selection_of(alloc, line, expression) {
+        Ok(selection) => filter::start(alloc, NAME, &selection, reader, writer, errors),
+        Err(error) => write_report(errors, NAME, &error),
+    }
+}
+
+// Whether a command line selects lines of standard input.
+pub(crate) fn reads_input(words: &[String]) -> bool {
+    matches!(parse_words(words), Ok(line) if line.task == Task::Select)
+}
+
+// Runs the program with these arguments (without the program's name), and returns its exit status:
+// 0, 1 after a failure, or if no line is in the set and that is asked for, 2 after a wrong option
+// or expression. A failing `errors` does not change the status.
+pub(crate) fn start<R: Source, W: Sink, E: Sink>(
+    alloc: Global,
+    words: &[String],
+    reader: &mut R,
+    writer: &mut W,
+    errors: &mut E,
+) -> u8
+    // After a wrong command line nothing is read or written.
+    ensures usage { IfErr (command_line (map (λ word. string_bytes word) words.now)) (λ error.
+        (result ≡ 2) × (R.remaining reader.new ≡ R.remaining reader.old)
+        × (W.contents writer.new ≡ W.contents writer.old)) }
+{
+    match parse_words(words) {
+        Ok(line) => match (line.task, line.expression) {
+            (Task::Select, Some(index)) => {
+                select(alloc, line, word_at(words, index), reader, writer, errors)
+            }
+            (Task::Version, _) => {
+                write_parts(writer, &["jj-filesets in Rattle ", VERSION, "\n"]);
+                0
+            }
+            _ => {
+                write_parts(writer, &[SYNOPSIS, HELP]);
+                0
+            }
+        },
+        Err(error) => {
+            report_usage(alloc, error, words, errors);
+            2
         }
     }
 }
 
-fn select(
-    alloc: Global,
-    set: &FilesetExpression,
-    options: ListOptions,
-    input: &[u8],
-) -> Result<SelectedLines, Fault>
-    ensures selection { IfOk result (λ selected.
-        IsSelection set.now options input.now selected.output.items selected.invalid) }
-    ensures error { IfErr result (IsInputFault options input.now) }
-{
-    match select_lines(alloc, set, options, input) {
-        Ok(selected) => Ok(selected),
-        Err(ListError::Memory) => Err(Fault::Memory),
-        Err(error) => Err(Fault::List(error)),
+// The word at an index, or the empty string.
+fn word_at(words: &[String], index: usize) -> &str {
+    words.get(index).map_or("", |word| word.as_str())
+}
+
+// Quotes the word at an index.
+fn quoted_at(alloc: Global, words: &[String], index: usize) -> Result<String, AllocError> {
+    excerpt(alloc, word_at(words, index).as_bytes())
+}
+
+fn report_usage<E: Sink>(alloc: Global, error: UsageError, words: &[String], errors: &mut E) {
+    match error {
+        UsageError::NoExpression => {
+            write_parts(errors, &["jj-filesets: no expression\n", SYNOPSIS]);
+        }
+        UsageError::UnknownOption(index) => {
+            if let Ok(word) = quoted_at(alloc, words, index) {
+                let line = [
+                    "jj-filesets: unknown option ",
+                    word.as_str(),
+                    "\n",
+                    SYNOPSIS,
+                ];
+                write_parts(errors, &line);
+            }
+        }
+        UsageError::SecondExpression(index) => {
+            if let Ok(word) = quoted_at(alloc, words, index) {
+                let problem = "jj-filesets: more than one expression: ";
+                write_parts(errors, &[problem, word.as_str(), "\n", SYNOPSIS]);
+            }
+        }
     }
 }
