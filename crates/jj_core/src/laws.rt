@@ -8,10 +8,6 @@ pub use jj_ids::ref_name::remote_symbol_display_is_injective;
 pub use jj_matchers::laws::{acceptance_laws, walks_find_accepted_marks};
 pub use jj_merges::laws::{simplified_indices_laws, three_way_laws};
 pub use jj_paths::laws::{ancestor_laws, last_name_laws, node_list_laws, path_string_laws};
-pub use jj_program::laws::{
-    commands_have_these_lines, faults_are_of_first_kinds, faults_are_of_first_lines,
-    results_are_unique, walks_find_their_files,
-};
 pub use jj_trees::laws::merged_path_laws;
 pub use jj_walks::laws::{
     closest_common_nodes_are_maximal, dfs_ok_yields_preorder, dfs_yields_preorder,

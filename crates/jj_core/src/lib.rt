@@ -16,7 +16,6 @@ pub use jj_ids::{object_id, ref_name};
 pub use jj_matchers::matchers;
 pub use jj_merges::{conflict_labels, merge};
 pub use jj_paths::{repo_path, repo_path_tree};
-pub use jj_program::program;
 pub use jj_stores::{op_store, signing, workspace_store};
 pub use jj_strings::str_util;
 pub use jj_trees::{memory_backend, tree_merge};
