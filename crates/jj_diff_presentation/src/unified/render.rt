@@ -118,7 +118,8 @@ pub(super) fn text_of_hunks(
 }
 
 /// Returns the unified diff of two versions of a file, with `context` lines around each change, as
-/// `git diff` and `diff -u` write it: nothing for equal versions.
+/// `git diff` and `diff -u` write it: nothing for equal versions. The path is written as it is, so
+/// it has no LF; Git would quote other control characters.
 pub fn write_unified_diff(
     alloc: Global,
     path: &[u8],
