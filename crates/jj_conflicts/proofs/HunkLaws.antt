@@ -1,20 +1,23 @@
 -- Rendered hunks as the parser reads them.
-use Rattle.std.proofs.Common.{◌≡◌, ℕ, zero, suc, ◌+◌, ◌-◌, ◌*◌, ◌/◌, ◌%◌, ◌<◌, ◌≤◌, Bool, true, false, cond, not, ◌&&◌, ◌==◌, nat_lt, List, [], ◌∷◌, ◌++◌, length, fold, Option, Some, None, refl, sym, ap, ◌∙◌, inl, inr, arith, eq-eqb, ltb-true, append-nil, append_assoc, true≢false, codes}
+use Rattle.std.proofs.Common.{◌≡◌, ℕ, ◌+◌, ◌-◌, ◌*◌, ◌/◌, ◌%◌, ◌<◌, ◌≤◌, Bool, true, false, cond, not, ◌&&◌, ◌==◌, nat_lt, List, [], ◌∷◌, ◌++◌, length, fold, Some, refl, sym, ap, ◌∙◌, subst, inl, inr, arith, eq-eqb, lt-ltb, ltb-true, append-nil, append_assoc, true≢false, codes}
 use Rattle.std.proofs.lemmas.Bool.{and_from, and_parts, not-true}
 use Rattle.std.proofs.lemmas.List.Sums.{fold-append}
 use Rattle.std.proofs.lemmas.List.Folds.{list_all-append}
 use Rattle.std.specs.List.{list_all, concat, AllByRecursion}
 use Rattle.jj_conflicts.specs.Lines.{split_lines, is_terminated, terminated}
-use Rattle.jj_conflicts.specs.Markers.{run_length, marker_of, marker_line, has_note}
-use Rattle.jj_conflicts.specs.Rendering.{label_at, term_byte, section, sections, snapshot_text, git_text, conflict_label, conflict_text, conflict_count, rendered_from, rendered}
-use Rattle.jj_conflicts.specs.Parsing.{Terms, Hunks, term_of, with_lines, with_line, first_term, has_sides, finished_terms, terms_after, terms_of, resolved_hunk, with_conflict, after_start, is_null, with_text_line, no_hunks, all_hunks, parsed}
-use Rattle.jj_conflicts.specs.Conditions.{IsUnmarked, IsUnmarkedTerm, IsParsable, joined_after, joined}
+use Rattle.jj_conflicts.specs.Markers.{run_length, marker_of, marker_line}
+use Rattle.jj_conflicts.specs.Rendering.{label_at, term_byte, section, sections, snapshot_text, git_text, conflict_label, conflict_text, conflict_count, rendered_from, rendered, all_terminated, AreSections, IsDiffText, IsConflictText, IsRenderedFrom, IsRendered}
+use Rattle.jj_conflicts.specs.Parsing.{Hunks, has_sides, terms_after, terms_of, with_conflict, after_start, is_null, with_text_line, all_hunks, parsed}
+use Rattle.jj_conflicts.specs.Parsing.{resolved_hunk}
+use Rattle.jj_conflicts.specs.Conditions.{joined_after, joined}
+use Rattle.jj_conflicts.specs.Conditions.{IsUnmarked, IsUnmarkedTerm, IsParsable, run_limit}
 use Rattle.jj_conflicts.specs.declared.conflicts.ConflictMarkerStyle.{ConflictMarkerStyle}
-use Rattle.jj_conflicts.specs.declared.conflicts.ConflictMarkerStyle.TheVariants.{Snapshot, Git}
+use Rattle.jj_conflicts.specs.declared.conflicts.ConflictMarkerStyle.TheVariants.{Diff, Snapshot, Git}
 use Rattle.jj_conflicts.proofs.Booleans.{cond_true, cond_false}
 use Rattle.jj_conflicts.proofs.LineLaws.{split-append, concat-split, terminated-append, is_terminated-terminated}
 use Rattle.jj_conflicts.proofs.MarkerLaws.{IsMarkerByte, marker_of-marker, marker_of-other, split-marker, is_terminated-marker, has_note-marker}
 use Rattle.jj_conflicts.proofs.TermLaws.{is_marker-term_byte, split-block, snapshot_parsed, git_parsed}
+use Rattle.jj_conflicts.proofs.SectionLaws.{AreReadable, sections_ended, sections_inside, sections_parsed}
 
 abbrev pub hunks_at : List (List (List ℕ)) → List ℕ → List ℕ → Hunks
 hunks_at hunks resolved pending =
@@ -310,22 +313,71 @@ git_read n sides hunks resolved labels left base right h unl unb unr size =
     (has_note-marker 62 n (label_at labels 2) (not (is_terminated right)) ends)
     unl unb unr (sided 2 sides size))
 
-conflict_text_read : (style : ConflictMarkerStyle) (n sides : ℕ) (hunks : List (List (List ℕ)))
+git_text_read : (n sides : ℕ) (hunks : List (List (List ℕ)))
     (resolved : List ℕ) (labels : List (List ℕ)) (number count : ℕ) (a b : List ℕ)
     (terms : List (List ℕ)) → 0 < n → AllByRecursion (IsUnmarkedTerm n) (a ∷ b ∷ terms)
     → length (a ∷ b ∷ terms) + 1 ≡ 2 * sides
     → fold (with_text_line n sides)
     (hunks_at hunks resolved [])
-    (split_lines (conflict_text style n labels number count (a ∷ b ∷ terms)))
+    (split_lines (conflict_text Git n labels number count (a ∷ b ∷ terms)))
     ≡ hunks_at (hunks ++ resolved_hunk resolved ++ (a ∷ b ∷ terms) ∷ []) [] []
-conflict_text_read Snapshot n sides hunks resolved labels number count a b terms h unmarked size =
-    snapshot_read n sides hunks resolved labels number count a (b ∷ terms) h unmarked size
-conflict_text_read Git n sides hunks resolved labels number count a b [] h unmarked size =
+git_text_read n sides hunks resolved labels number count a b [] h unmarked size =
     snapshot_read n sides hunks resolved labels number count a (b ∷ []) h unmarked size
-conflict_text_read Git n sides hunks resolved labels number count a b (c ∷ []) h unmarked size =
+git_text_read n sides hunks resolved labels number count a b (c ∷ []) h unmarked size =
     git_read n sides hunks resolved labels a b c h unmarked.0 unmarked.1.0 unmarked.1.1.0 size
-conflict_text_read Git n sides hunks resolved labels number count a b (c ∷ d ∷ ts) h unmarked size
-    = snapshot_read n sides hunks resolved labels number count a (b ∷ c ∷ d ∷ ts) h unmarked size
+git_text_read n sides hunks resolved labels number count a b (c ∷ d ∷ ts) h unmarked size =
+    snapshot_read n sides hunks resolved labels number count a (b ∷ c ∷ d ∷ ts) h unmarked size
+
+-- ---- the diff style
+
+weaker-runs : (m n : ℕ) (lines : List (List ℕ)) → m ≤ n
+    → list_all (λ line. nat_lt (run_length line) m) lines ≡ true
+    → list_all (λ line. nat_lt (run_length line) n) lines ≡ true
+weaker-runs m n [] le h = refl
+weaker-runs m n (line ∷ lines) le h =
+    let p : (nat_lt (run_length line) m ≡ true) × (list_all (λ l. nat_lt (run_length l) m) lines ≡ true)
+    = and_parts (nat_lt (run_length line) m) (list_all (λ l. nat_lt (run_length l) m) lines) h in
+    let lt : run_length line < m = ltb-true (run_length line) m p.0 in
+    and_from (nat_lt (run_length line) n) (list_all (λ l. nat_lt (run_length l) n) lines)
+    (lt-ltb (run_length line) n (omega (arith, lt))) (weaker-runs m n lines le p.1)
+
+weaker-terms : (m n : ℕ) (terms : List (List ℕ)) → m ≤ n → AllByRecursion (IsUnmarkedTerm m) terms
+    → AllByRecursion (IsUnmarkedTerm n) terms
+weaker-terms m n [] le ok = tt
+weaker-terms m n (t ∷ terms) le ok =
+    (weaker-runs m n (split_lines (terminated t)) le ok.0, weaker-terms m n terms le ok.1)
+
+readable-terms : (n : ℕ) (terms : List (List ℕ)) → all_terminated terms ≡ true
+    → AllByRecursion (IsUnmarkedTerm (n - 1)) terms → AreReadable n terms
+readable-terms n [] ended ok = tt
+readable-terms n (t ∷ terms) ended ok =
+    let p : (is_terminated t ≡ true) × (all_terminated terms ≡ true)
+    = and_parts (is_terminated t) (all_terminated terms) ended in (
+      (
+        p.0,
+        subst (IsUnmarked (n - 1)) (cond_true (is_terminated t) t (t ++ 10 ∷ []) p.0) ok.0,
+        weaker-runs (n - 1) n (split_lines (terminated t)) (omega arith) ok.0,
+      ),
+      readable-terms n terms p.1 ok.1,
+    )
+
+sections_text_read : (n sides : ℕ) (hunks : List (List (List ℕ))) (resolved : List ℕ)
+    (labels : List (List ℕ)) (number count : ℕ) (a b : List ℕ) (terms : List (List ℕ)) (body : List ℕ)
+    → 0 < n → AreSections n labels 0 (a ∷ b ∷ terms) body → AreReadable n (a ∷ b ∷ terms)
+    → length (a ∷ b ∷ terms) + 1 ≡ 2 * sides
+    → fold (with_text_line n sides) (hunks_at hunks resolved [])
+    (split_lines (marker_line 60 n (conflict_label number count) false ++ body
+    ++ marker_line 62 n (conflict_label number count ++ codes " ends") false))
+    ≡ hunks_at (hunks ++ resolved_hunk resolved ++ (a ∷ b ∷ terms) ∷ []) [] []
+sections_text_read n sides hunks resolved labels number count a b terms body h s ok size =
+    let label : List ℕ = conflict_label number count ++ codes " ends" in
+    let start : List ℕ = marker_line 60 n (conflict_label number count) false in
+    let end : List ℕ = marker_line 62 n label false in
+    conflict_read n sides hunks resolved start body end (a ∷ b ∷ terms)
+    (marker-line 60 n (conflict_label number count) false starts h) (marker-line 62 n label false ends h)
+    (sections_ended n labels 0 (a ∷ b ∷ terms) body s ok)
+    (sections_inside n labels 0 (a ∷ b ∷ terms) body h s ok)
+    (sections_parsed n sides labels start a b terms body end h s ok size)
 
 is_terminated-snapshot : (n : ℕ) (labels : List (List ℕ)) (number count : ℕ)
     (terms : List (List ℕ)) → is_terminated (snapshot_text n labels number count terms) ≡ true
@@ -337,14 +389,12 @@ is_terminated-snapshot n labels number count terms =
     (sections n labels 0 terms) (is_terminated-sections n labels 0 terms))
     (is_terminated-marker 62 n (conflict_label number count ++ codes " ends") false)
 
-is_terminated-conflict : (style : ConflictMarkerStyle) (n : ℕ) (labels : List (List ℕ))
+is_terminated-git : (n : ℕ) (labels : List (List ℕ))
     (number count : ℕ) (a b : List ℕ) (terms : List (List ℕ))
-    → is_terminated (conflict_text style n labels number count (a ∷ b ∷ terms)) ≡ true
-is_terminated-conflict Snapshot n labels number count a b terms =
-    is_terminated-snapshot n labels number count (a ∷ b ∷ terms)
-is_terminated-conflict Git n labels number count a b [] =
+    → is_terminated (conflict_text Git n labels number count (a ∷ b ∷ terms)) ≡ true
+is_terminated-git n labels number count a b [] =
     is_terminated-snapshot n labels number count (a ∷ b ∷ [])
-is_terminated-conflict Git n labels number count a b (c ∷ []) =
+is_terminated-git n labels number count a b (c ∷ []) =
     terminated-append
     (section n 60 (label_at labels 0) a ++ section n 124 (label_at labels 1) b
     ++ marker_line 61 n [] false ++ terminated c) _
@@ -363,8 +413,65 @@ is_terminated-conflict Git n labels number count a b (c ∷ []) =
     (is_terminated-marker 61 n [] false))
     (is_terminated-terminated c))
     (is_terminated-marker 62 n (label_at labels 2) (not (is_terminated c)))
-is_terminated-conflict Git n labels number count a b (c ∷ d ∷ ts) =
+is_terminated-git n labels number count a b (c ∷ d ∷ ts) =
     is_terminated-snapshot n labels number count (a ∷ b ∷ c ∷ d ∷ ts)
+
+-- ---- a conflict in any style
+
+-- the parser reads these bytes as this conflict
+record IsRead (n sides : ℕ) (terms : List (List ℕ)) (text : List ℕ) : Type 0 where
+  pub ended : is_terminated text ≡ true
+  pub parsed_as : (hunks : List (List (List ℕ))) (resolved : List ℕ)
+      → fold (with_text_line n sides) (hunks_at hunks resolved []) (split_lines text)
+      ≡ hunks_at (hunks ++ resolved_hunk resolved ++ terms ∷ []) [] []
+
+snapshot_is_read : (n sides : ℕ) (labels : List (List ℕ)) (number count : ℕ) (a b : List ℕ)
+    (terms : List (List ℕ)) → 0 < n → AllByRecursion (IsUnmarkedTerm n) (a ∷ b ∷ terms)
+    → length (a ∷ b ∷ terms) + 1 ≡ 2 * sides
+    → IsRead n sides (a ∷ b ∷ terms) (snapshot_text n labels number count (a ∷ b ∷ terms))
+snapshot_is_read n sides labels number count a b terms h ok size = record {
+  ended = is_terminated-snapshot n labels number count (a ∷ b ∷ terms);
+  parsed_as = λ hunks resolved. snapshot_read n sides hunks resolved labels number count a (b ∷ terms) h ok size;
+}
+
+diff_is_read : (ended : Bool) (n sides : ℕ) (labels : List (List ℕ)) (number count : ℕ) (a b : List ℕ)
+    (terms : List (List ℕ)) (text : List ℕ) → all_terminated (a ∷ b ∷ terms) ≡ ended → 0 < n
+    → AllByRecursion (IsUnmarkedTerm (n - 1)) (a ∷ b ∷ terms)
+    → length (a ∷ b ∷ terms) + 1 ≡ 2 * sides
+    → IsDiffText ended n labels number count (a ∷ b ∷ terms) text
+    → IsRead n sides (a ∷ b ∷ terms) text
+diff_is_read true n sides labels number count a b terms text e h ok size t =
+    let readable : AreReadable n (a ∷ b ∷ terms) = readable-terms n (a ∷ b ∷ terms) e ok in
+    let start : List ℕ = marker_line 60 n (conflict_label number count) false in
+    let end : List ℕ = marker_line 62 n (conflict_label number count ++ codes " ends") false in
+    subst (IsRead n sides (a ∷ b ∷ terms)) (sym t.1.1) (record {
+      ended = terminated-append (start ++ t.0) end
+          (terminated-append start t.0 (is_terminated-marker 60 n (conflict_label number count) false)
+          (sections_ended n labels 0 (a ∷ b ∷ terms) t.0 t.1.0 readable))
+          (is_terminated-marker 62 n (conflict_label number count ++ codes " ends") false);
+      parsed_as = λ hunks resolved.
+          sections_text_read n sides hunks resolved labels number count a b terms t.0 h t.1.0 readable size;
+    })
+diff_is_read false n sides labels number count a b terms text e h ok size t =
+    subst (IsRead n sides (a ∷ b ∷ terms)) (sym t)
+    (snapshot_is_read n sides labels number count a b terms h (weaker-terms (n - 1) n (a ∷ b ∷ terms) (omega arith) ok) size)
+
+conflict_is_read : (style : ConflictMarkerStyle) (n sides : ℕ) (labels : List (List ℕ))
+    (number count : ℕ) (a b : List ℕ) (terms : List (List ℕ)) (text : List ℕ) → 0 < n
+    → AllByRecursion (IsUnmarkedTerm (run_limit style n)) (a ∷ b ∷ terms)
+    → length (a ∷ b ∷ terms) + 1 ≡ 2 * sides
+    → IsConflictText style n labels number count (a ∷ b ∷ terms) text
+    → IsRead n sides (a ∷ b ∷ terms) text
+conflict_is_read Diff n sides labels number count a b terms text h ok size t =
+    diff_is_read (all_terminated (a ∷ b ∷ terms)) n sides labels number count a b terms text refl h ok size t
+conflict_is_read Snapshot n sides labels number count a b terms text h ok size t =
+    subst (IsRead n sides (a ∷ b ∷ terms)) (sym t)
+    (snapshot_is_read n sides labels number count a b terms h ok size)
+conflict_is_read Git n sides labels number count a b terms text h ok size t =
+    subst (IsRead n sides (a ∷ b ∷ terms)) (sym t) (record {
+      ended = is_terminated-git n labels number count a b terms;
+      parsed_as = λ hunks resolved. git_text_read n sides hunks resolved labels number count a b terms h ok size;
+    })
 
 -- ---- resolved content
 
@@ -421,51 +528,94 @@ last_text n sides hunks resolved text unmarked =
     ap all_hunks (text_read n sides hunks resolved text unmarked)
     ∙ ap (λ r. hunks ++ resolved_hunk r) (append-nil (resolved ++ text))
 
+limit-within : (style : ConflictMarkerStyle) (n : ℕ) → run_limit style n ≤ n
+limit-within Diff n = omega arith
+limit-within Snapshot n = omega arith
+limit-within Git n = omega arith
+
 pub hunks_read : (style : ConflictMarkerStyle) (n sides : ℕ) (labels : List (List ℕ))
     (number count : ℕ) (before : List (List (List ℕ))) (resolved : List ℕ)
-    (hunks : List (List (List ℕ))) → 0 < n → IsParsable n sides hunks
-    → read_after n sides before resolved (rendered_from style n labels number count hunks)
-    ≡ before ++ joined_after resolved hunks
-hunks_read style n sides labels number count before resolved [] h ok =
-    ap (λ r. before ++ resolved_hunk r) (append-nil resolved)
-hunks_read style n sides labels number count before resolved ((text ∷ []) ∷ hunks) h ok =
-    let rest : List ℕ = rendered_from style n labels number count hunks in
+    (hunks : List (List (List ℕ))) (text : List ℕ) → 0 < n → IsParsable (run_limit style n) sides hunks
+    → IsRenderedFrom style n labels number count hunks text
+    → read_after n sides before resolved text ≡ before ++ joined_after resolved hunks
+hunks_read style n sides labels number count before resolved [] text h ok r =
+    ap (read_after n sides before resolved) r
+    ∙ ap (λ x. before ++ resolved_hunk x) (append-nil resolved)
+hunks_read style n sides labels number count before resolved ((term ∷ []) ∷ hunks) text h ok r =
+    let rest : List ℕ = r.0 in
     let f : Hunks → List ℕ → Hunks = with_text_line n sides in
     let s : Hunks = hunks_at before resolved [] in
+    let unmarked : IsUnmarked n term
+    = weaker-runs (run_limit style n) n (split_lines term) (limit-within style n) ok.0 in
     elim ok.1 [
       | inl complete ↦
-          ap (λ ls. all_hunks (fold f s ls)) (split-append text rest complete)
-          ∙ ap all_hunks (fold-append f s (split_lines text) (split_lines rest))
+          ap (read_after n sides before resolved) r.1.1
+          ∙ ap (λ ls. all_hunks (fold f s ls)) (split-append term rest complete)
+          ∙ ap all_hunks (fold-append f s (split_lines term) (split_lines rest))
           ∙ ap (λ u. all_hunks (fold f u (split_lines rest)))
-          (text_read n sides before resolved text ok.0)
-          ∙ hunks_read style n sides labels number count before (resolved ++ text) hunks h ok.2
+          (text_read n sides before resolved term unmarked)
+          ∙ hunks_read style n sides labels number count before (resolved ++ term) hunks rest h ok.2 r.1.0
       | inr last ↦
-          ap (λ x. read_after n sides before resolved (text ++ x))
-          (ap (rendered_from style n labels number count) last)
-          ∙ ap (read_after n sides before resolved) (append-nil text)
-          ∙ last_text n sides before resolved text ok.0
-          ∙ sym (ap (λ x. before ++ joined_after (resolved ++ text) x) last)
+          let empty : rest ≡ []
+          = subst (λ hs. IsRenderedFrom style n labels number count hs rest) last r.1.0 in
+          ap (read_after n sides before resolved) (r.1.1 ∙ ap (λ x. term ++ x) empty ∙ append-nil term)
+          ∙ last_text n sides before resolved term unmarked
+          ∙ sym (ap (λ x. before ++ joined_after (resolved ++ term) x) last)
     ]
-hunks_read style n sides labels number count before resolved ([] ∷ hunks) h ok =
+hunks_read style n sides labels number count before resolved ([] ∷ hunks) text h ok r =
     absurd (omega (arith, ok.0))
-hunks_read style n sides labels number count before resolved ((a ∷ b ∷ terms) ∷ hunks) h ok =
-    let text : List ℕ = conflict_text style n labels (number + 1) count (a ∷ b ∷ terms) in
-    let rest : List ℕ = rendered_from style n labels (number + 1) count hunks in
+hunks_read style n sides labels number count before resolved ((a ∷ b ∷ terms) ∷ hunks) text h ok r =
+    let first : List ℕ = r.0 in
+    let rest : List ℕ = r.1.0 in
     let f : Hunks → List ℕ → Hunks = with_text_line n sides in
     let s : Hunks = hunks_at before resolved [] in
     let front : List (List (List ℕ)) = before ++ resolved_hunk resolved ++ (a ∷ b ∷ terms) ∷ [] in
-    ap (λ ls. all_hunks (fold f s ls)) (split-append text rest
-    (is_terminated-conflict style n labels (number + 1) count a b terms))
-    ∙ ap all_hunks (fold-append f s (split_lines text) (split_lines rest))
-    ∙ ap (λ u. all_hunks (fold f u (split_lines rest)))
-    (conflict_text_read style n sides before resolved labels (number + 1) count a b terms h ok.1
-    ok.0)
-    ∙ hunks_read style n sides labels (number + 1) count front [] hunks h ok.2
+    let read : IsRead n sides (a ∷ b ∷ terms) first
+    = conflict_is_read style n sides labels (number + 1) count a b terms first h ok.1 ok.0 r.1.1.0 in
+    ap (read_after n sides before resolved) r.1.1.2
+    ∙ ap (λ ls. all_hunks (fold f s ls)) (split-append first rest read.ended)
+    ∙ ap all_hunks (fold-append f s (split_lines first) (split_lines rest))
+    ∙ ap (λ u. all_hunks (fold f u (split_lines rest))) (read.parsed_as before resolved)
+    ∙ hunks_read style n sides labels (number + 1) count front [] hunks rest h ok.2 r.1.1.1
     ∙ append_assoc (before ++ resolved_hunk resolved) ((a ∷ b ∷ terms) ∷ []) (joined_after [] hunks)
     ∙ append_assoc before (resolved_hunk resolved) ((a ∷ b ∷ terms) ∷ joined_after [] hunks)
 
 pub parsed_rendered : (style : ConflictMarkerStyle) (n sides : ℕ) (labels : List (List ℕ))
-    (hunks : List (List (List ℕ))) → 0 < n → IsParsable n sides hunks
-    → parsed n sides (rendered style n labels hunks) ≡ joined hunks
-parsed_rendered style n sides labels hunks h ok =
-    hunks_read style n sides labels 0 (conflict_count hunks) [] [] hunks h ok
+    (hunks : List (List (List ℕ))) (text : List ℕ) → 0 < n → IsParsable (run_limit style n) sides hunks
+    → IsRendered style n labels hunks text → parsed n sides text ≡ joined hunks
+parsed_rendered style n sides labels hunks text h ok r =
+    hunks_read style n sides labels 0 (conflict_count hunks) [] [] hunks text h ok r
+
+-- ---- a single rendering
+
+exact_conflict : (style : ConflictMarkerStyle) (n : ℕ) (labels : List (List ℕ)) (number count : ℕ)
+    (terms : List (List ℕ)) (text : List ℕ) → (style ≡ Diff → ⊥)
+    → IsConflictText style n labels number count terms text
+    → text ≡ conflict_text style n labels number count terms
+exact_conflict Diff n labels number count terms text h t = absurd (h refl)
+exact_conflict Snapshot n labels number count terms text h t = t
+exact_conflict Git n labels number count terms text h t = t
+
+exact_from : (style : ConflictMarkerStyle) (n : ℕ) (labels : List (List ℕ)) (number count : ℕ)
+    (hunks : List (List (List ℕ))) (text : List ℕ) → (style ≡ Diff → ⊥)
+    → IsRenderedFrom style n labels number count hunks text
+    → text ≡ rendered_from style n labels number count hunks
+exact_from style n labels number count [] text h r = r
+exact_from style n labels number count ((term ∷ []) ∷ hunks) text h r =
+    r.1.1 ∙ ap (λ x. term ++ x) (exact_from style n labels number count hunks r.0 h r.1.0)
+exact_from style n labels number count ([] ∷ hunks) text h r =
+    r.1.1.2
+    ∙ ap (λ x. x ++ r.1.0) (exact_conflict style n labels (number + 1) count [] r.0 h r.1.1.0)
+    ∙ ap (λ x. conflict_text style n labels (number + 1) count [] ++ x)
+    (exact_from style n labels (number + 1) count hunks r.1.0 h r.1.1.1)
+exact_from style n labels number count ((a ∷ b ∷ terms) ∷ hunks) text h r =
+    r.1.1.2
+    ∙ ap (λ x. x ++ r.1.0) (exact_conflict style n labels (number + 1) count (a ∷ b ∷ terms) r.0 h r.1.1.0)
+    ∙ ap (λ x. conflict_text style n labels (number + 1) count (a ∷ b ∷ terms) ++ x)
+    (exact_from style n labels (number + 1) count hunks r.1.0 h r.1.1.1)
+
+pub exact_rendering : (style : ConflictMarkerStyle) (n : ℕ) (labels : List (List ℕ))
+    (hunks : List (List (List ℕ))) (text : List ℕ) → (style ≡ Diff → ⊥)
+    → IsRendered style n labels hunks text → text ≡ rendered style n labels hunks
+exact_rendering style n labels hunks text h r =
+    exact_from style n labels 0 (conflict_count hunks) hunks text h r

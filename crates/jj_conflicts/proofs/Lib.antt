@@ -6,5 +6,9 @@ pub mod MarkerSteps
 pub mod ParseLaws
 pub mod StateLaws
 pub mod TermLaws
+pub mod SectionLines
+pub mod SectionLaws
+pub mod SectionSteps
+pub mod DiffLoops
 pub mod HunkLaws
 pub mod UnmarkedLaws

@@ -1,11 +1,10 @@
 -- Steps of loops over hunks and terms.
-use Rattle.std.proofs.Common.{◌≡◌, ℕ, suc, ◌+◌, ◌<◌, ◌≤◌, List, [], ◌∷◌, ◌++◌, length, get_or, drop, map, fold, max, refl, sym, ap, ◌∙◌, arith, append_assoc, Vec, Global}
-use Rattle.std.proofs.lemmas.List.{at_drop_more}
-use Rattle.jj_conflicts.specs.Markers.{longest_run, marker_len_of_terms}
+use Rattle.std.proofs.Common.{◌≡◌, ℕ, ◌+◌, ◌<◌, ◌≤◌, List, [], ◌∷◌, ◌++◌, length, get_or, drop, refl, sym, ap, ◌∙◌, subst, arith, append-nil, append_assoc, Vec, Global}
+use Rattle.std.proofs.lemmas.List.{at_drop_more, at_drop_all}
 use Rattle.jj_conflicts.specs.Contents.{contents, merge_contents}
-use Rattle.jj_conflicts.specs.Rendering.{label_at, term_byte, section, sections, snapshot_text, git_text, conflict_text, conflict_count, rendered_from}
+use Rattle.jj_conflicts.specs.Rendering.{label_at, term_byte, section, sections, snapshot_text, git_text, conflict_text, conflict_count, IsConflictText, IsRenderedFrom}
 use Rattle.jj_conflicts.specs.declared.conflicts.ConflictMarkerStyle.{ConflictMarkerStyle}
-use Rattle.jj_conflicts.specs.declared.conflicts.ConflictMarkerStyle.TheVariants.{Snapshot, Git}
+use Rattle.jj_conflicts.specs.declared.conflicts.ConflictMarkerStyle.TheVariants.{Git}
 
 -- a function of the items from i on, at the item there
 pub at_item : {X Y : Type 0} (F : List X → Y) (xs : List X) (i : ℕ) (x : X) → i < length xs
@@ -44,29 +43,71 @@ count_more (t ∷ u ∷ ts) hunks h = refl
 
 pub rendered_one : (style : ConflictMarkerStyle) (n : ℕ) (labels : List (List ℕ))
     (number count : ℕ) (terms : List (Vec ℕ Global)) (x : Vec ℕ Global) (before : List ℕ)
-    → length terms ≡ 1 → x ≡ get_or terms 0 x → (rest : List (List (List ℕ)))
-    → (before ++ x.items) ++ rendered_from style n labels number count rest
-    ≡ before ++ rendered_from style n labels number count (merge_contents terms ∷ rest)
-rendered_one style n labels number count [] x before h e rest = absurd (omega arith)
-rendered_one style n labels number count (t ∷ []) x before h e rest =
-    append_assoc before x.items (rendered_from style n labels number count rest)
-    ∙ ap (λ (y : Vec ℕ Global). before ++ (y.items ++ rendered_from style n labels number count rest)) e
-rendered_one style n labels number count (t ∷ u ∷ ts) x before h e rest = absurd (omega arith)
+    → length terms ≡ 1 → x ≡ get_or terms 0 x → (rest : List (List (List ℕ))) (tail : List ℕ)
+    → IsRenderedFrom style n labels number count rest tail
+    → (whole : List ℕ) × (IsRenderedFrom style n labels number count (merge_contents terms ∷ rest) whole
+    × ((before ++ x.items) ++ tail ≡ before ++ whole))
+rendered_one style n labels number count [] x before h e rest tail r = absurd (omega arith)
+rendered_one style n labels number count (t ∷ []) x before h e rest tail r = (
+  t.items ++ tail,
+  (
+    (tail, (r, refl)),
+    append_assoc before x.items tail ∙ ap (λ (y : Vec ℕ Global). before ++ (y.items ++ tail)) e,
+  ),
+)
+rendered_one style n labels number count (t ∷ u ∷ ts) x before h e rest tail r = absurd (omega arith)
 
 pub rendered_more : (style : ConflictMarkerStyle) (n : ℕ) (labels : List (List ℕ))
-    (number count : ℕ) (terms : List (Vec ℕ Global)) (before : List ℕ)
-    → (length terms ≡ 1 → ⊥) → (rest : List (List (List ℕ)))
-    → (before ++ conflict_text style n labels (number + 1) count (merge_contents terms))
-    ++ rendered_from style n labels (number + 1) count rest
-    ≡ before ++ rendered_from style n labels number count (merge_contents terms ∷ rest)
-rendered_more style n labels number count [] before h rest =
-    append_assoc before (conflict_text style n labels (number + 1) count [])
-    (rendered_from style n labels (number + 1) count rest)
-rendered_more style n labels number count (t ∷ []) before h rest = absurd (h refl)
-rendered_more style n labels number count (t ∷ u ∷ ts) before h rest =
-    append_assoc before
-    (conflict_text style n labels (number + 1) count (merge_contents (t ∷ u ∷ ts)))
-    (rendered_from style n labels (number + 1) count rest)
+    (number count : ℕ) (terms : List (Vec ℕ Global)) (first before : List ℕ)
+    → (length terms ≡ 1 → ⊥)
+    → IsConflictText style n labels (number + 1) count (merge_contents terms) first
+    → (rest : List (List (List ℕ))) (tail : List ℕ)
+    → IsRenderedFrom style n labels (number + 1) count rest tail
+    → (whole : List ℕ) × (IsRenderedFrom style n labels number count (merge_contents terms ∷ rest) whole
+    × ((before ++ first) ++ tail ≡ before ++ whole))
+rendered_more style n labels number count [] first before h c rest tail r =
+    (first ++ tail, ((first, (tail, (c, r, refl))), append_assoc before first tail))
+rendered_more style n labels number count (t ∷ []) first before h c rest tail r = absurd (h refl)
+rendered_more style n labels number count (t ∷ u ∷ ts) first before h c rest tail r =
+    (first ++ tail, ((first, (tail, (c, r, refl))), append_assoc before first tail))
+
+-- followed by a rendering of the rest, the bytes so far are a rendering of all hunks
+abbrev pub Renders : ConflictMarkerStyle → ℕ → List (List ℕ) → ℕ → List (List (List ℕ)) → List ℕ
+    → ℕ → List (List (List ℕ)) → Type 0
+Renders style n labels count all text number rest = (tail : List ℕ)
+    → IsRenderedFrom style n labels number count rest tail
+    → IsRenderedFrom style n labels 0 count all (text ++ tail)
+
+pub renders_more : (style : ConflictMarkerStyle) (n : ℕ) (labels : List (List ℕ)) (count : ℕ)
+    (all : List (List (List ℕ))) (old new : List ℕ) (number next : ℕ)
+    (hunks : List (List (Vec ℕ Global))) (i : ℕ) (terms : List (Vec ℕ Global))
+    → i < length hunks → terms ≡ get_or hunks i terms
+    → Renders style n labels count all old number (contents (drop i hunks))
+    → ((rest : List (List (List ℕ))) (tail : List ℕ)
+    → IsRenderedFrom style n labels next count rest tail
+    → (whole : List ℕ) × (IsRenderedFrom style n labels number count (merge_contents terms ∷ rest) whole
+    × (new ++ tail ≡ old ++ whole)))
+    → Renders style n labels count all new next (contents (drop (i + 1) hunks))
+renders_more style n labels count all old new number next hunks i terms lt e before push = λ tail r.
+    let made : (whole : List ℕ) × (IsRenderedFrom style n labels number count (merge_contents terms ∷ contents (drop (i + 1) hunks)) whole
+    × (new ++ tail ≡ old ++ whole)) = push (contents (drop (i + 1) hunks)) tail r in
+    subst (IsRenderedFrom style n labels 0 count all) (sym made.1.1)
+    (before made.0 (subst (λ hs. IsRenderedFrom style n labels number count hs made.0)
+    (sym (at_item contents hunks i terms lt e)) made.1.0))
+
+pub renders_end : (style : ConflictMarkerStyle) (n : ℕ) (labels : List (List ℕ)) (count : ℕ)
+    (all : List (List (List ℕ))) (text : List ℕ) (number : ℕ)
+    (hunks : List (List (Vec ℕ Global))) (i : ℕ) → length hunks ≤ i
+    → Renders style n labels count all text number (contents (drop i hunks))
+    → IsRenderedFrom style n labels 0 count all text
+renders_end style n labels count all text number hunks i le before =
+    subst (IsRenderedFrom style n labels 0 count all) (append-nil text)
+    (before [] (subst (λ hs. IsRenderedFrom style n labels number count hs [])
+    (sym (at_drop_all contents hunks i le)) refl))
+
+pub renders_start : (style : ConflictMarkerStyle) (n : ℕ) (labels : List (List ℕ)) (count : ℕ)
+    (all : List (List (List ℕ))) → Renders style n labels count all [] 0 all
+renders_start style n labels count all = λ tail r. r
 
 pub git_three : (n : ℕ) (labels : List (List ℕ)) (number count : ℕ)
     (terms : List (Vec ℕ Global)) (a b c : Vec ℕ Global) → length terms ≡ 3
@@ -91,3 +132,9 @@ git_other n labels number count (x ∷ []) h = refl
 git_other n labels number count (x ∷ y ∷ []) h = refl
 git_other n labels number count (x ∷ y ∷ z ∷ []) h = absurd (h refl)
 git_other n labels number count (x ∷ y ∷ z ∷ w ∷ ts) h = refl
+
+pub ruleset hunk_steps = (rendered_one, rendered_more)
+
+pub ruleset hunks_steps = (renders_more, renders_end, renders_start)
+
+pub ruleset git_steps = (git_three, git_other)

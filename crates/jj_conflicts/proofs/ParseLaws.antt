@@ -1,8 +1,8 @@
 -- Steps of the parser, as the code makes them.
-use Rattle.std.proofs.Common.{◌≡◌, ℕ, suc, ◌+◌, ◌<◌, ◌≤◌, Bool, true, false, cond, ◌==◌, List, [], ◌∷◌, ◌++◌, length, fold, refl, sym, ap, ◌∙◌, arith, eq-eqb, ne_eqb}
+use Rattle.std.proofs.Common.{◌≡◌, ℕ, Bool, true, false, cond, ◌==◌, List, [], ◌∷◌, ◌++◌, length, fold, Option, Some, None, refl, sym, ap, ◌∙◌, arith, eq-eqb, ne_eqb}
 use Rattle.jj_conflicts.specs.Lines.{split_lines}
 use Rattle.jj_conflicts.specs.Markers.{marker_of}
-use Rattle.jj_conflicts.specs.Parsing.{Terms, Hunks, with_separator, with_line, with_lines, is_separator, first_term, finished_terms, terms_after, terms_of, with_conflict, after_start, is_null, with_text_line}
+use Rattle.jj_conflicts.specs.Parsing.{Terms, Hunks, with_separator, with_line, with_lines, is_separator, first_term, finished_terms, section_lines, first_some, terms_after, terms_of, with_conflict, after_start, is_null, with_text_line}
 use Rattle.jj_conflicts.proofs.Booleans.{cond_true, cond_false}
 use Rattle.jj_conflicts.proofs.LineLaws.{split_empty}
 
@@ -44,32 +44,75 @@ one_line_only n sides pending start rest end e h =
     ap (λ ls. terms_of n sides ls end) e
     ∙ ap (λ ls. terms_after n sides start ls end) (split_empty rest h)
 
+whole : (n sides : ℕ) (pending start rest line after end : List ℕ)
+    → split_lines pending ≡ start ∷ split_lines rest
+    → split_lines rest ≡ line ∷ split_lines after
+    → terms_of n sides (split_lines pending) end
+    ≡ terms_after n sides start (line ∷ split_lines after) end
+whole n sides pending start rest line after end e f =
+    ap (λ ls. terms_of n sides ls end) e ∙ ap (λ ls. terms_after n sides start ls end) f
+
+pub diff_lines : (n sides : ℕ) (pending start rest line after end : List ℕ)
+    → split_lines pending ≡ start ∷ split_lines rest
+    → split_lines rest ≡ line ∷ split_lines after → marker_of n line ≡ 37
+    → section_lines n sides (split_lines rest) ≡ terms_of n sides (split_lines pending) end
+diff_lines n sides pending start rest line after end e f h =
+    ap (section_lines n sides) f
+    ∙ sym (whole n sides pending start rest line after end e f
+    ∙ cond_true (marker_of n line == 37) (section_lines n sides (line ∷ split_lines after))
+    (cond (marker_of n line == 43)
+    (first_some (finished_terms sides false (with_lines n false (first_term line) (split_lines after)) end)
+    (section_lines n sides (line ∷ split_lines after)))
+    (finished_terms sides true (with_lines n true (first_term start) (line ∷ split_lines after)) end))
+    (eq-eqb (marker_of n line) 37 h))
+
 pub snapshot_lines : (n sides : ℕ) (pending start rest line after end : List ℕ)
     → split_lines pending ≡ start ∷ split_lines rest
     → split_lines rest ≡ line ∷ split_lines after → marker_of n line ≡ 43
-    → finished_terms sides false (with_lines n false (first_term line) (split_lines after)) end
-    ≡ terms_of n sides (split_lines pending) end
+    → first_some (finished_terms sides false (with_lines n false (first_term line) (split_lines after)) end)
+    (section_lines n sides (split_lines rest)) ≡ terms_of n sides (split_lines pending) end
 snapshot_lines n sides pending start rest line after end e f h =
-    sym (ap (λ ls. terms_of n sides ls end) e ∙ ap (λ ls. terms_after n sides start ls end) f
-    ∙ cond_true (marker_of n line == 43)
-    (finished_terms sides false (with_lines n false (first_term line) (split_lines after)) end)
-    (finished_terms sides true
-    (with_lines n true (first_term start) (line ∷ split_lines after)) end)
+    let snapshot : Option (List (List ℕ))
+    = finished_terms sides false (with_lines n false (first_term line) (split_lines after)) end in
+    let sections : Option (List (List ℕ)) = section_lines n sides (line ∷ split_lines after) in
+    let git : Option (List (List ℕ))
+    = finished_terms sides true (with_lines n true (first_term start) (line ∷ split_lines after)) end in
+    ap (λ ls. first_some snapshot (section_lines n sides ls)) f
+    ∙ sym (whole n sides pending start rest line after end e f
+    ∙ cond_false (marker_of n line == 37) sections
+    (cond (marker_of n line == 43) (first_some snapshot sections) git) (ap (λ m. m == 37) h)
+    ∙ cond_true (marker_of n line == 43) (first_some snapshot sections) git
     (eq-eqb (marker_of n line) 43 h))
 
 pub git_lines : (n sides : ℕ) (pending start rest line after end : List ℕ)
     → split_lines pending ≡ start ∷ split_lines rest
-    → split_lines rest ≡ line ∷ split_lines after → (marker_of n line ≡ 43 → ⊥)
+    → split_lines rest ≡ line ∷ split_lines after → (marker_of n line ≡ 37 → ⊥)
+    → (marker_of n line ≡ 43 → ⊥)
     → finished_terms sides true (with_lines n true (first_term start) (split_lines rest)) end
     ≡ terms_of n sides (split_lines pending) end
-git_lines n sides pending start rest line after end e f h =
+git_lines n sides pending start rest line after end e f h k =
+    let snapshot : Option (List (List ℕ))
+    = finished_terms sides false (with_lines n false (first_term line) (split_lines after)) end in
+    let sections : Option (List (List ℕ)) = section_lines n sides (line ∷ split_lines after) in
+    let git : Option (List (List ℕ))
+    = finished_terms sides true (with_lines n true (first_term start) (line ∷ split_lines after)) end in
     ap (λ ls. finished_terms sides true (with_lines n true (first_term start) ls) end) f
-    ∙ sym (ap (λ ls. terms_of n sides ls end) e ∙ ap (λ ls. terms_after n sides start ls end) f
-    ∙ cond_false (marker_of n line == 43)
-    (finished_terms sides false (with_lines n false (first_term line) (split_lines after)) end)
-    (finished_terms sides true
-    (with_lines n true (first_term start) (line ∷ split_lines after)) end)
-    (ne_eqb (marker_of n line) 43 h))
+    ∙ sym (whole n sides pending start rest line after end e f
+    ∙ cond_false (marker_of n line == 37) sections
+    (cond (marker_of n line == 43) (first_some snapshot sections) git)
+    (ne_eqb (marker_of n line) 37 h)
+    ∙ cond_false (marker_of n line == 43) (first_some snapshot sections) git
+    (ne_eqb (marker_of n line) 43 k))
+
+-- the result of the snapshot style, or else of the diff style
+pub first_taken : (a b x : Option (List (List ℕ))) (terms : List (List ℕ)) → x ≡ a → x ≡ Some terms
+    → Some terms ≡ first_some a b
+first_taken a b x terms e f = sym (ap (λ y. first_some y b) (sym e ∙ f))
+
+pub second_taken : (a b x : Option (List (List ℕ))) → x ≡ a → x ≡ None → b ≡ first_some a b
+second_taken a b x e f = sym (ap (λ y. first_some y b) (sym e ∙ f))
+
+pub ruleset first_steps = (first_taken, second_taken)
 
 -- ---- hunks
 

@@ -1,11 +1,11 @@
 -- The state of the parser and the writer after an item was appended, as the code does it.
-use Rattle.std.proofs.Common.{◌≡◌, ℕ, ◌+◌, ◌-◌, ◌<◌, Bool, true, false, cond, not, ◌&&◌, ◌==◌, nat_lt, List, [], ◌∷◌, ◌++◌, length, map, take, refl, sym, ap, ◌∙◌, arith, eq-eqb, ne_eqb, lt-ltb, le-ltb, append-nil, append_assoc, Vec, Global, Some, None, replicate}
+use Rattle.std.proofs.Common.{◌≡◌, ℕ, ◌<◌, Bool, true, false, not, ◌&&◌, ◌==◌, nat_lt, List, [], ◌∷◌, ◌++◌, length, refl, sym, ap, ◌∙◌, arith, eq-eqb, ne_eqb, lt-ltb, le-ltb, append-nil, append_assoc, Vec, Global, replicate}
 use Rattle.std.proofs.lemmas.Bool.{and_left, and_right}
 use Rattle.std.specs.List.{list_any}
 use Rattle.jj_conflicts.specs.Lines.{is_terminated, terminated}
 use Rattle.jj_conflicts.specs.Markers.{has_note, is_shown, shown_label}
 use Rattle.jj_conflicts.specs.Contents.{contents, merge_contents}
-use Rattle.jj_conflicts.specs.Parsing.{Terms, term_of, separator_byte, with_separator, has_sides, last_noted, finished_terms, resolved_hunk}
+use Rattle.jj_conflicts.specs.Parsing.{Terms, term_of, separator_byte, with_separator, resolved_hunk}
 use Rattle.jj_conflicts.proofs.Booleans.{cond_true, cond_false}
 
 -- ---- writing

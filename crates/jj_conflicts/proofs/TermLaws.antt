@@ -1,5 +1,5 @@
 -- The terms of a rendered conflict as the parser reads them.
-use Rattle.std.proofs.Common.{◌≡◌, ℕ, zero, suc, ◌+◌, ◌-◌, ◌*◌, ◌/◌, ◌%◌, ◌<◌, ◌≤◌, Bool, true, false, cond, not, ◌&&◌, ◌==◌, nat_lt, List, [], ◌∷◌, ◌++◌, length, take, fold, Some, None, refl, sym, ap, ◌∙◌, inl, inr, arith, eq-eqb, ne_eqb, eqb-true, ltb-true, append-nil, append_assoc, length-append, true≢false}
+use Rattle.std.proofs.Common.{◌≡◌, ℕ, ◌+◌, ◌-◌, ◌%◌, ◌<◌, Bool, true, false, cond, not, ◌&&◌, ◌==◌, nat_lt, List, [], ◌∷◌, ◌++◌, length, take, fold, Option, Some, None, refl, sym, ap, ◌∙◌, inl, inr, arith, eq-eqb, ne_eqb, eqb-true, ltb-true, append-nil, append_assoc, length-append, true≢false}
 use Rattle.std.proofs.lemmas.Bool.{cases_Bool, and_parts, not-true, eqb-false}
 use Rattle.std.proofs.lemmas.List.Sums.{fold-append}
 use Rattle.std.proofs.Math.Seq.{take-append_seam}
@@ -7,7 +7,7 @@ use Rattle.std.specs.List.{list_all, concat, AllByRecursion}
 use Rattle.jj_conflicts.specs.Lines.{split_lines, is_terminated, terminated}
 use Rattle.jj_conflicts.specs.Markers.{run_length, marker_of, marker_line, has_note}
 use Rattle.jj_conflicts.specs.Rendering.{label_at, term_byte, section, sections}
-use Rattle.jj_conflicts.specs.Parsing.{Terms, term_of, separator_byte, is_separator, with_separator, with_line, with_lines, first_term, has_sides, finished_terms, terms_after}
+use Rattle.jj_conflicts.specs.Parsing.{Terms, term_of, separator_byte, is_separator, with_separator, with_line, with_lines, first_term, has_sides, finished_terms, section_lines, first_some, terms_after}
 use Rattle.jj_conflicts.specs.Conditions.{IsUnmarked, IsUnmarkedTerm}
 use Rattle.jj_conflicts.proofs.Booleans.{cond_true, cond_false}
 use Rattle.jj_conflicts.proofs.LineLaws.{split-append, concat-split, terminated-append, is_terminated-terminated}
@@ -198,14 +198,19 @@ snapshot_parsed n sides labels start t terms end h unmarked sided =
     let lines : List (List ℕ) = split_lines (terminated t) ++ split_lines rest in
     let e : marker_of n line ≡ 43 = marker_of-marker 43 n label noted is h in
     let zero_more : length terms ≡ 0 + length terms = omega arith in
+    let snapshot : Option (List (List ℕ))
+    = finished_terms sides false (with_lines n false (first_term line) lines) end in
+    let compared : Option (List (List ℕ)) = section_lines n sides (line ∷ lines) in
+    let git : Option (List (List ℕ))
+    = finished_terms sides true (with_lines n true (first_term start) (line ∷ lines)) end in
     ap (λ ls. terms_after n sides start ls end)
     (split-append (section n 43 label t) rest (is_terminated-section n 43 label t)
     ∙ ap (λ ls. ls ++ split_lines rest) (split-block n 43 label noted (terminated t) is))
-    ∙ cond_true (marker_of n line == 43)
-    (finished_terms sides false (with_lines n false (first_term line) lines) end)
-    (finished_terms sides true (with_lines n true (first_term start) (line ∷ lines)) end)
+    ∙ cond_false (marker_of n line == 37) compared
+    (cond (marker_of n line == 43) (first_some snapshot compared) git) (ap (λ m. m == 37) e)
+    ∙ cond_true (marker_of n line == 43) (first_some snapshot compared) git
     (eq-eqb (marker_of n line) 43 e)
-    ∙ ap (λ v. finished_terms sides false v end)
+    ∙ ap (λ x. first_some x compared) (ap (λ v. finished_terms sides false v end)
     (fold-append (with_line n false) (first_term line) (split_lines (terminated t))
     (split_lines rest))
     ∙ ap (λ v. finished_terms sides false (with_lines n false v (split_lines rest)) end)
@@ -215,14 +220,14 @@ snapshot_parsed n sides labels start t terms end h unmarked sided =
     ∙ ap (λ v. terms_at [] (terminated t) v true)
     (has_note-marker 43 n label noted is))
     ∙ sections_parsed n sides labels [] t terms end 1 h refl unmarked.1
-    (sym (ap (has_sides sides) zero_more) ∙ sided)
+    (sym (ap (has_sides sides) zero_more) ∙ sided))
 
 -- ---- Git's style
 
 -- the first line is no marker of the snapshot style
 abbrev pub is_git_style : ℕ → List (List ℕ) → Bool
 is_git_style n [] = false
-is_git_style n (line ∷ lines) = not (marker_of n line == 43)
+is_git_style n (line ∷ lines) = not (marker_of n line == 37) && not (marker_of n line == 43)
 
 git_style : (n sides : ℕ) (start : List ℕ) (lines : List (List ℕ)) (end : List ℕ)
     → is_git_style n lines ≡ true
@@ -230,20 +235,29 @@ git_style : (n sides : ℕ) (start : List ℕ) (lines : List (List ℕ)) (end : 
     ≡ finished_terms sides true (with_lines n true (first_term start) lines) end
 git_style n sides start [] end h = absurd (true≢false (sym h))
 git_style n sides start (line ∷ lines) end h =
-    cond_false (marker_of n line == 43)
-    (finished_terms sides false (with_lines n false (first_term line) lines) end)
-    (finished_terms sides true (with_lines n true (first_term start) (line ∷ lines)) end)
-    (not-true (marker_of n line == 43) h)
+    let snapshot : Option (List (List ℕ))
+    = finished_terms sides false (with_lines n false (first_term line) lines) end in
+    let compared : Option (List (List ℕ)) = section_lines n sides (line ∷ lines) in
+    let git : Option (List (List ℕ))
+    = finished_terms sides true (with_lines n true (first_term start) (line ∷ lines)) end in
+    let p : (not (marker_of n line == 37) ≡ true) × (not (marker_of n line == 43) ≡ true)
+    = and_parts (not (marker_of n line == 37)) (not (marker_of n line == 43)) h in
+    cond_false (marker_of n line == 37) compared
+    (cond (marker_of n line == 43) (first_some snapshot compared) git)
+    (not-true (marker_of n line == 37) p.0)
+    ∙ cond_false (marker_of n line == 43) (first_some snapshot compared) git
+    (not-true (marker_of n line == 43) p.1)
 
 git_style-text : (n : ℕ) (xs : List (List ℕ)) (line : List ℕ) (ys : List (List ℕ))
     → list_all (λ l. nat_lt (run_length l) n) xs ≡ true → marker_of n line ≡ 124
     → is_git_style n (xs ++ line ∷ ys) ≡ true
-git_style-text n [] line ys h e = ap (λ m. not (m == 43)) e
+git_style-text n [] line ys h e = ap (λ m. not (m == 37) && not (m == 43)) e
 git_style-text n (x ∷ xs) line ys h e =
     let p : (nat_lt (run_length x) n ≡ true)
     × (list_all (λ l. nat_lt (run_length l) n) xs ≡ true)
     = and_parts (nat_lt (run_length x) n) (list_all (λ l. nat_lt (run_length l) n) xs) h in
-    ap (λ m. not (m == 43)) (marker_of-other n x (ltb-true (run_length x) n p.0))
+    ap (λ m. not (m == 37) && not (m == 43))
+    (marker_of-other n x (ltb-true (run_length x) n p.0))
 
 -- the lines of a conflict in Git's style
 pub git_parsed : (n sides : ℕ) (start end label left base right : List ℕ) → 0 < n

@@ -1,10 +1,12 @@
 -- No line is a marker if markers are longer than the longest run.
-use Rattle.std.proofs.Common.{◌≡◌, ℕ, ◌+◌, ◌*◌, ◌<◌, ◌≤◌, ◌⊎◌, max, Bool, true, false, cond, ◌==◌, nat_lt, List, [], ◌∷◌, ◌++◌, length, fold, refl, sym, ap, ◌∙◌, inl, inr, arith, eq-eqb, ne_eqb, lt-ltb, ltb-true, true≢false, le_trans, le_refl}
+use Rattle.std.proofs.Common.{◌≡◌, ℕ, ◌+◌, ◌-◌, ◌<◌, ◌≤◌, max, Bool, true, false, cond, ◌==◌, nat_lt, List, [], ◌∷◌, ◌++◌, length, fold, refl, sym, ap, ◌∙◌, inl, inr, arith, ne_eqb, lt-ltb, true≢false, le_trans}
 use Rattle.std.proofs.lemmas.Bool.{cases_eq, cases_Bool, and_from, and_parts, eqb-false}
 use Rattle.std.specs.List.{list_all, prefix_len, AllByRecursion}
-use Rattle.jj_conflicts.specs.Lines.{prepended, split_lines, is_terminated, terminated}
+use Rattle.jj_conflicts.specs.Lines.{prepended, split_lines, is_terminated}
 use Rattle.jj_conflicts.specs.Markers.{is_marker_byte, run_length, longest_run, marker_len_of_terms, chosen_marker_len}
-use Rattle.jj_conflicts.specs.Conditions.{IsUnmarked, IsUnmarkedTerm, IsParsable, IsMergeOfLines}
+use Rattle.jj_conflicts.specs.Conditions.{IsUnmarked, IsUnmarkedTerm, IsParsable, IsMergeOfLines, run_limit}
+use Rattle.jj_conflicts.specs.declared.conflicts.ConflictMarkerStyle.{ConflictMarkerStyle}
+use Rattle.jj_conflicts.specs.declared.conflicts.ConflictMarkerStyle.TheVariants.{Diff, Snapshot, Git}
 use Rattle.jj_conflicts.proofs.Booleans.{cond_true, cond_false}
 use Rattle.jj_conflicts.proofs.LineLaws.{split-newline, split-other, split-nonempty}
 
@@ -123,9 +125,9 @@ unmarked_term n text h =
 above_least : (n : ℕ) (terms : List (List ℕ)) → n ≤ marker_len_of_terms n terms
 above_least n [] = omega arith
 above_least n (t ∷ terms) =
-    let more : max n (longest_run t + 1)
-    ≤ marker_len_of_terms (max n (longest_run t + 1)) terms
-    = above_least (max n (longest_run t + 1)) terms in
+    let more : max n (longest_run t + 2)
+    ≤ marker_len_of_terms (max n (longest_run t + 2)) terms
+    = above_least (max n (longest_run t + 2)) terms in
     omega (arith, more)
 
 above_all : (n : ℕ) (hunks : List (List (List ℕ))) → n ≤ fold marker_len_of_terms n hunks
@@ -136,14 +138,14 @@ above_all n (terms ∷ hunks) =
     = above_all (marker_len_of_terms n terms) hunks in
     omega (arith, more, above_least n terms)
 
-terms_below : (n m : ℕ) (terms : List (List ℕ)) → marker_len_of_terms n terms ≤ m
+terms_below : (n m : ℕ) (terms : List (List ℕ)) → marker_len_of_terms n terms ≤ m + 1
     → AllByRecursion (λ t. longest_run t < m) terms
 terms_below n m [] h = tt
 terms_below n m (t ∷ terms) h =
-    let more : max n (longest_run t + 1)
-    ≤ marker_len_of_terms (max n (longest_run t + 1)) terms
-    = above_least (max n (longest_run t + 1)) terms in
-    (omega (arith, more, h), terms_below (max n (longest_run t + 1)) m terms h)
+    let more : max n (longest_run t + 2)
+    ≤ marker_len_of_terms (max n (longest_run t + 2)) terms
+    = above_least (max n (longest_run t + 2)) terms in
+    (omega (arith, more, h), terms_below (max n (longest_run t + 2)) m terms h)
 
 unmarked_terms : (m : ℕ) (terms : List (List ℕ)) → AllByRecursion (λ t. longest_run t < m) terms
     → AllByRecursion (IsUnmarkedTerm m) terms
@@ -151,13 +153,13 @@ unmarked_terms m [] h = tt
 unmarked_terms m (t ∷ terms) h = (unmarked_term m t h.0, unmarked_terms m terms h.1)
 
 parsable_from : (n m sides : ℕ) (hunks : List (List (List ℕ)))
-    → fold marker_len_of_terms n hunks ≤ m → IsMergeOfLines sides hunks
+    → fold marker_len_of_terms n hunks ≤ m + 1 → IsMergeOfLines sides hunks
     → IsParsable m sides hunks
 parsable_from n m sides [] h ok = tt
 parsable_from n m sides ((text ∷ []) ∷ hunks) h ok =
     let k : ℕ = marker_len_of_terms n (text ∷ []) in
     let above : k ≤ fold marker_len_of_terms k hunks = above_all k hunks in
-    let whole : fold marker_len_of_terms k hunks ≤ m = h in
+    let whole : fold marker_len_of_terms k hunks ≤ m + 1 = h in
     let below : AllByRecursion (λ t. longest_run t < m) (text ∷ [])
     = terms_below n m (text ∷ []) (le_trans above whole) in
     (unmarked m text below.0, ok.0, parsable_from k m sides hunks h ok.1)
@@ -165,15 +167,20 @@ parsable_from n m sides ([] ∷ hunks) h ok = absurd (omega (arith, ok.0))
 parsable_from n m sides ((a ∷ b ∷ terms) ∷ hunks) h ok =
     let k : ℕ = marker_len_of_terms n (a ∷ b ∷ terms) in
     let above : k ≤ fold marker_len_of_terms k hunks = above_all k hunks in
-    let whole : fold marker_len_of_terms k hunks ≤ m = h in
+    let whole : fold marker_len_of_terms k hunks ≤ m + 1 = h in
     let below : AllByRecursion (λ t. longest_run t < m) (a ∷ b ∷ terms)
     = terms_below n m (a ∷ b ∷ terms) (le_trans above whole) in
     (ok.0, unmarked_terms m (a ∷ b ∷ terms) below, parsable_from k m sides hunks h ok.1)
 
-pub parsable : (sides : ℕ) (hunks : List (List (List ℕ))) → IsMergeOfLines sides hunks
-    → IsParsable (chosen_marker_len hunks) sides hunks
-parsable sides hunks ok = parsable_from 7 (chosen_marker_len hunks) sides hunks
-    (le_refl (chosen_marker_len hunks)) ok
+pub parsable : (style : ConflictMarkerStyle) (sides : ℕ) (hunks : List (List (List ℕ)))
+    → IsMergeOfLines sides hunks
+    → IsParsable (run_limit style (chosen_marker_len hunks)) sides hunks
+parsable Diff sides hunks ok = parsable_from 7 (chosen_marker_len hunks - 1) sides hunks
+    (omega (arith, above_all 7 hunks)) ok
+parsable Snapshot sides hunks ok =
+    parsable_from 7 (chosen_marker_len hunks) sides hunks (omega arith) ok
+parsable Git sides hunks ok =
+    parsable_from 7 (chosen_marker_len hunks) sides hunks (omega arith) ok
 
 pub chosen_positive : (hunks : List (List (List ℕ))) → 0 < chosen_marker_len hunks
 chosen_positive hunks = omega (arith, above_all 7 hunks)

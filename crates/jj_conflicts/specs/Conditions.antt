@@ -1,10 +1,13 @@
 -- The hunks that are read back from their rendered form.
--- Cited by contracts of public items: IsMergeOfLines, IsParsable, joined.
-use Rattle.std.specs.Prelude.{◌≡◌, ℕ, ◌+◌, ◌*◌, ◌<◌, ◌⊎◌, true, List, [], ◌∷◌, ◌++◌, length, nat_lt}
+-- Cited by contracts of public items: IsMergeOfLines, IsParsable, joined,
+-- run_limit.
+use Rattle.std.specs.Prelude.{◌≡◌, ℕ, ◌+◌, ◌-◌, ◌*◌, ◌⊎◌, true, List, [], ◌∷◌, ◌++◌, length, nat_lt}
 use Rattle.std.specs.List.{list_all, AllByRecursion}
 use Rattle.jj_conflicts.specs.Lines.{split_lines, is_terminated, terminated}
 use Rattle.jj_conflicts.specs.Markers.{run_length}
 use Rattle.jj_conflicts.specs.Parsing.{resolved_hunk}
+use Rattle.jj_conflicts.specs.declared.conflicts.ConflictMarkerStyle.{ConflictMarkerStyle}
+use Rattle.jj_conflicts.specs.declared.conflicts.ConflictMarkerStyle.TheVariants.{Diff, Snapshot, Git}
 
 -- no line begins with n or more of a marker character
 abbrev pub IsUnmarked : ℕ → List ℕ → Type 0
@@ -29,6 +32,13 @@ IsMergeOfLines sides ((text ∷ []) ∷ hunks) =
     ((is_terminated text ≡ true) ⊎ (hunks ≡ [])) × IsMergeOfLines sides hunks
 IsMergeOfLines sides (terms ∷ hunks) =
     (length terms + 1 ≡ 2 * sides) × IsMergeOfLines sides hunks
+
+-- The lengths below which runs at the start of a line are no markers of length n. In the diff style
+-- a line gets a character before it.
+abbrev pub run_limit : ConflictMarkerStyle → ℕ → ℕ
+run_limit Diff n = n - 1
+run_limit Snapshot n = n
+run_limit Git n = n
 
 -- the hunks after resolved content, which adjacent resolved hunks are joined to
 abbrev pub joined_after : List ℕ → List (List (List ℕ)) → List (List (List ℕ))

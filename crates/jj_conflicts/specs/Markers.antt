@@ -1,6 +1,6 @@
 -- Marker lines: a run of one of seven characters at the start of a line, white space, and a label.
 -- Cited by contracts of public items: chosen_marker_len.
-use Rattle.std.specs.Prelude.{ℕ, ◌+◌, Bool, true, false, List, [], ◌∷◌, ◌++◌, ◌==◌, ◌&&◌, ◌||◌, not, if◌then◌else◌, nat_lt, nat_le, nat_eq, length, drop, replicate, codes, max, fold}
+use Rattle.std.specs.Prelude.{ℕ, ◌+◌, Bool, true, List, [], ◌∷◌, ◌++◌, ◌==◌, ◌&&◌, ◌||◌, not, if◌then◌else◌, nat_lt, nat_le, nat_eq, length, drop, replicate, codes, max, fold}
 use Rattle.std.specs.List.{prefix_len, ends_with, list_any}
 use Rattle.std.specs.Char.{is_ascii_whitespace}
 use Rattle.jj_conflicts.specs.Lines.{split_lines}
@@ -19,11 +19,11 @@ run_length (b ∷ bs) = if is_marker_byte b then prefix_len (λ c. c == b) (b �
 abbrev pub longest_run : List ℕ → ℕ
 longest_run text = fold (λ longest line. max longest (run_length line)) 0 (split_lines text)
 
--- at least a length, and more than each run of the terms
+-- at least a length, and by two more than each run of the terms
 abbrev pub marker_len_of_terms : ℕ → List (List ℕ) → ℕ
-marker_len_of_terms n terms = fold (λ len term. max len (longest_run term + 1)) n terms
+marker_len_of_terms n terms = fold (λ len term. max len (longest_run term + 2)) n terms
 
--- at least 7, and more than each run of the hunks' terms
+-- at least 7, and by two more than each run of the hunks' terms
 abbrev pub chosen_marker_len : List (List (List ℕ)) → ℕ
 chosen_marker_len hunks = fold marker_len_of_terms 7 hunks
 

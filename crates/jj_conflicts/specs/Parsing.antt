@@ -1,6 +1,6 @@
 -- The hunks of a byte string with conflict markers, line by line. A hunk is the list of its terms.
 -- Cited by contracts of public items: has_conflict, parsed.
-use Rattle.std.specs.Prelude.{ℕ, ◌+◌, ◌-◌, ◌/◌, ◌%◌, Bool, true, false, List, [], ◌∷◌, ◌++◌, ◌==◌, ◌&&◌, ◌||◌, if◌then◌else◌, length, take, fold, Option, Some, None}
+use Rattle.std.specs.Prelude.{ℕ, ◌+◌, ◌-◌, ◌/◌, ◌%◌, Bool, true, false, not, List, [], ◌∷◌, ◌++◌, ◌==◌, ◌&&◌, ◌||◌, if◌then◌else◌, length, take, fold, Option, Some, None}
 use Rattle.jj_conflicts.specs.Lines.{split_lines}
 use Rattle.jj_conflicts.specs.Markers.{marker_of, has_note}
 
@@ -67,12 +67,98 @@ finished_terms sides is_git s end =
     then Some (s.finished ++ term_of (last_noted is_git s end) s.current ∷ [])
     else None
 
--- In Git's style the first term follows the line that starts the conflict.
+-- ---- the sections of one conflict in the diff style
+
+-- the finished terms; the marker character of the current section (0 if there is none), and its
+-- lines of the base and of the side; whether it is noted as one that does not end in LF, and if all
+-- lines were the expected ones
+pub record Sections : Type 0 where
+  pub terms : List (List ℕ)
+  pub byte : ℕ
+  pub base : List ℕ
+  pub side : List ℕ
+  pub noted : Bool
+  pub valid : Bool
+
+abbrev pub is_odd : ℕ → Bool
+is_odd k = k % 2 == 1
+
+-- A comparison before the side that is shown as it is has a side and the base after it; one after
+-- that side has a base and the side after it.
+abbrev pub section_terms : ℕ → Bool → List ℕ → List ℕ → List (List ℕ)
+section_terms byte odd base side =
+    if byte == 0 then [] else if byte == 43 then side ∷ []
+    else if odd then base ∷ side ∷ [] else side ∷ base ∷ []
+
+-- the terms up to the current section
+abbrev pub done_terms : Sections → List (List ℕ)
+done_terms s = s.terms ++ section_terms s.byte (is_odd (length s.terms))
+    (term_of s.noted s.base) (term_of s.noted s.side)
+
+-- one side is shown as it is
+abbrev pub with_section : Sections → ℕ → List ℕ → Sections
+with_section s byte line = record {
+  terms = done_terms s;
+  byte = byte;
+  base = [];
+  side = [];
+  noted = has_note line;
+  valid = s.valid && not (byte == 43 && is_odd (length (done_terms s)));
+}
+
+-- a line of a comparison: of both with a space, of the base with a -, of the side with a +; an
+-- empty line is of both
+abbrev pub with_diff_line : Sections → List ℕ → Sections
+with_diff_line s [] = s
+with_diff_line s (b ∷ bs) =
+    if b == 32 then record s { base = s.base ++ bs; side = s.side ++ bs }
+    else if b == 45 then record s { base = s.base ++ bs }
+    else if b == 43 then record s { side = s.side ++ bs }
+    else if b == 10 then record s { base = s.base ++ b ∷ bs; side = s.side ++ b ∷ bs }
+    else record s { valid = false }
+
+abbrev pub is_section_byte : ℕ → Bool
+is_section_byte byte = byte == 37 || byte == 43
+
+abbrev pub with_section_line : ℕ → Sections → List ℕ → Sections
+with_section_line n s line =
+    if is_section_byte (marker_of n line) then with_section s (marker_of n line) line
+    else if s.byte == 43 then record s { side = s.side ++ line }
+    else with_diff_line s line
+
+abbrev pub no_sections : Sections
+no_sections =
+    record { terms = []; byte = 0; base = []; side = []; noted = false; valid = true }
+
+-- so many terms are those of a merge of this number of sides
+abbrev pub has_terms : ℕ → ℕ → Bool
+has_terms sides k = is_odd k && (k / 2 + 1 == sides)
+
+-- the terms of a conflict, if all lines were the expected ones and it has this number of sides
+abbrev pub sections_outcome : ℕ → Sections → Option (List (List ℕ))
+sections_outcome sides s =
+    if s.valid && has_terms sides (length (done_terms s)) then Some (done_terms s) else None
+
+abbrev pub section_lines : ℕ → ℕ → List (List ℕ) → Option (List (List ℕ))
+section_lines n sides lines =
+    sections_outcome sides (fold (with_section_line n) no_sections lines)
+
+-- ---- the terms of one conflict in any style
+
+abbrev pub first_some : Option (List (List ℕ)) → Option (List (List ℕ))
+    → Option (List (List ℕ))
+first_some (Some terms) other = Some terms
+first_some None other = other
+
+-- In Git's style the first term follows the line that starts the conflict. In the diff style the
+-- first section may be a side, as in the snapshot style, which is tried first.
 abbrev pub terms_after : ℕ → ℕ → List ℕ → List (List ℕ) → List ℕ → Option (List (List ℕ))
 terms_after n sides start [] end = None
 terms_after n sides start (line ∷ lines) end =
-    if marker_of n line == 43
-    then finished_terms sides false (with_lines n false (first_term line) lines) end
+    if marker_of n line == 37 then section_lines n sides (line ∷ lines)
+    else if marker_of n line == 43
+    then first_some (finished_terms sides false (with_lines n false (first_term line) lines) end)
+    (section_lines n sides (line ∷ lines))
     else finished_terms sides true (with_lines n true (first_term start) (line ∷ lines)) end
 
 -- the terms of the lines from the one that starts the conflict to before the one that ends it

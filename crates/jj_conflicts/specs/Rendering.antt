@@ -1,10 +1,16 @@
 -- Rendered merges of file contents. A hunk is the list of its terms.
--- Cited by contracts of public items: contents, rendered.
-use Rattle.std.specs.Prelude.{ℕ, ◌+◌, ◌%◌, false, List, [], ◌∷◌, ◌++◌, ◌==◌, not, if◌then◌else◌, slice_get, unwrap_or, codes, decimal}
-use Rattle.jj_conflicts.specs.Lines.{is_terminated, terminated}
+-- Cited by contracts of public items: rendered, IsRendered.
+use Rattle.std.specs.Prelude.{◌≡◌, ℕ, ◌+◌, ◌%◌, Bool, true, false, List, [], ◌∷◌, ◌++◌, ◌==◌, not, if◌then◌else◌, slice_get, unwrap_or, codes, decimal, map}
+use Rattle.std.specs.List.{concat, list_all, slice_index_or}
+use Rattle.jj_diff.specs.declared.diff.hunks.DiffHunk.{DiffHunk}
+use Rattle.jj_diff.specs.declared.diff.hunks.DiffHunkKind.{DiffHunkKind}
+use Rattle.jj_diff.specs.declared.diff.hunks.DiffHunkKind.TheVariants.{Matching, Different}
+use Rattle.jj_diff.specs.declared.diff.tokens.Tokenizer.TheVariants.{Lines}
+use Rattle.jj_diff.specs.Hunks.{row_of, IsDiff, MatchesEnds}
+use Rattle.jj_conflicts.specs.Lines.{split_lines, is_terminated, terminated}
 use Rattle.jj_conflicts.specs.Markers.{marker_line}
 use Rattle.jj_conflicts.specs.declared.conflicts.ConflictMarkerStyle.{ConflictMarkerStyle}
-use Rattle.jj_conflicts.specs.declared.conflicts.ConflictMarkerStyle.TheVariants.{Snapshot, Git}
+use Rattle.jj_conflicts.specs.declared.conflicts.ConflictMarkerStyle.TheVariants.{Diff, Snapshot, Git}
 
 -- the label of a term, or none
 abbrev pub label_at : List (List ℕ) → ℕ → List ℕ
@@ -51,7 +57,84 @@ conflict_count [] = 0
 conflict_count ((term ∷ []) ∷ hunks) = conflict_count hunks
 conflict_count (terms ∷ hunks) = conflict_count hunks + 1
 
--- the hunks after so many conflicts
+-- ---- the diff style
+
+-- the lines with a character before each
+abbrev pub prefixed : ℕ → List ℕ → List ℕ
+prefixed byte text = concat (map (λ line. byte ∷ line) (split_lines text))
+
+-- the lines of a matching hunk with a space before each; of another one, those of the first part
+-- with a - and those of the second with a +
+abbrev pub compared_text : DiffHunkKind → List (List ℕ) → List ℕ
+compared_text Matching row = prefixed 32 (slice_index_or row 0 [])
+compared_text Different row =
+    prefixed 45 (slice_index_or row 0 []) ++ prefixed 43 (slice_index_or row 1 [])
+
+abbrev pub diff_text : List DiffHunk → List ℕ
+diff_text [] = []
+diff_text (hunk ∷ hunks) = compared_text hunk.kind (row_of hunk) ++ diff_text hunks
+
+-- such as "from base to left", and empty if a label is
+abbrev pub diff_label : List ℕ → List ℕ → List ℕ
+diff_label [] side = []
+diff_label (b ∷ base) [] = []
+diff_label (b ∷ base) (c ∷ side) = codes "from " ++ b ∷ base ++ codes " to " ++ c ∷ side
+
+-- a marker line and a comparison of a base with a side by lines
+pub record IsDiffSection (n : ℕ) (label base side text : List ℕ) : Type 0 where
+  pub hunks : List DiffHunk
+  pub diff : IsDiff Lines (base ∷ side ∷ []) hunks
+  pub ends : MatchesEnds Lines (base ∷ side ∷ []) hunks
+  pub text_is : text ≡ marker_line 37 n label false ++ diff_text hunks
+
+-- each base, compared with the side before it, and the last side; i is the index of the first side
+abbrev pub AreSections : ℕ → List (List ℕ) → ℕ → List (List ℕ) → List ℕ → Type 0
+AreSections n labels i [] text = ⊥
+AreSections n labels i (side ∷ []) text = text ≡ section n 43 (label_at labels i) side
+AreSections n labels i (side ∷ base ∷ terms) text = (first : List ℕ) × ((rest : List ℕ)
+    × (IsDiffSection n (diff_label (label_at labels (i + 1)) (label_at labels i)) base side first
+    × AreSections n labels (i + 2) terms rest × (text ≡ first ++ rest)))
+
+abbrev pub all_terminated : List (List ℕ) → Bool
+all_terminated terms = list_all is_terminated terms
+
+-- A conflict with a term that does not end in LF is rendered as a snapshot.
+abbrev pub IsDiffText : Bool → ℕ → List (List ℕ) → ℕ → ℕ → List (List ℕ) → List ℕ → Type 0
+IsDiffText true n labels number count terms text = (body : List ℕ)
+    × (AreSections n labels 0 terms body
+    × (text ≡ marker_line 60 n (conflict_label number count) false ++ body
+    ++ marker_line 62 n (conflict_label number count ++ codes " ends") false))
+IsDiffText false n labels number count terms text =
+    text ≡ snapshot_text n labels number count terms
+
+abbrev pub IsConflictText : ConflictMarkerStyle → ℕ → List (List ℕ) → ℕ → ℕ → List (List ℕ)
+    → List ℕ → Type 0
+IsConflictText Diff n labels number count terms text =
+    IsDiffText (all_terminated terms) n labels number count terms text
+IsConflictText Snapshot n labels number count terms text =
+    text ≡ conflict_text Snapshot n labels number count terms
+IsConflictText Git n labels number count terms text =
+    text ≡ conflict_text Git n labels number count terms
+
+-- ---- hunks
+
+-- a rendering of hunks after so many conflicts
+abbrev pub IsRenderedFrom : ConflictMarkerStyle → ℕ → List (List ℕ) → ℕ → ℕ
+    → List (List (List ℕ)) → List ℕ → Type 0
+IsRenderedFrom style n labels number count [] text = text ≡ []
+IsRenderedFrom style n labels number count ((term ∷ []) ∷ hunks) text = (rest : List ℕ)
+    × (IsRenderedFrom style n labels number count hunks rest × (text ≡ term ++ rest))
+IsRenderedFrom style n labels number count (terms ∷ hunks) text = (first : List ℕ)
+    × ((rest : List ℕ) × (IsConflictText style n labels (number + 1) count terms first
+    × IsRenderedFrom style n labels (number + 1) count hunks rest × (text ≡ first ++ rest)))
+
+-- a rendering of all hunks
+abbrev pub IsRendered : ConflictMarkerStyle → ℕ → List (List ℕ) → List (List (List ℕ)) → List ℕ
+    → Type 0
+IsRendered style n labels hunks text =
+    IsRenderedFrom style n labels 0 (conflict_count hunks) hunks text
+
+-- the only rendering in the snapshot style and in Git's style
 abbrev pub rendered_from : ConflictMarkerStyle → ℕ → List (List ℕ) → ℕ → ℕ
     → List (List (List ℕ)) → List ℕ
 rendered_from style n labels number count [] = []

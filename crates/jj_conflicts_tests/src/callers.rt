@@ -12,7 +12,7 @@ use jj_merges::merge::Merge;
 use std::alloc::{AllocError, Global};
 
 /// Renders hunks of a merge of lines and parses the result. Returns these hunks, with adjacent
-/// resolved hunks joined, in both styles and with any labels.
+/// resolved hunks joined, in each style and with any labels.
 pub fn parse_rendered(
     alloc: Global,
     hunks: &[Merge<Vec<u8>>],

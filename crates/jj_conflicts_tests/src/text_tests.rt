@@ -67,8 +67,8 @@ fn git_style_without_lf(rt: HostRuntime) -> Result<(), Fail> {
     hunks.push(merge_of(alloc, &["a\n"])?)?;
     hunks.push(merge_of(alloc, &["left", "", "right\n||||||||"])?)?;
     let (text, is_same) = render(alloc, &hunks, ConflictMarkerStyle::Git)?;
-    let expected = "a\n<<<<<<<<< left (no terminating newline)\nleft\n||||||||| base\n=========\n\
-        right\n||||||||\n>>>>>>>>> right (no terminating newline)\n";
+    let expected = "a\n<<<<<<<<<< left (no terminating newline)\nleft\n|||||||||| base\n\
+        ==========\nright\n||||||||\n>>>>>>>>>> right (no terminating newline)\n";
     assert_eq!(rt; text.as_slice(), expected.as_bytes());
     assert!(rt; is_same);
     Ok(())
@@ -86,6 +86,37 @@ fn snapshot_style(rt: HostRuntime) -> Result<(), Fail> {
         +++++++ right\n>>>>>>> Conflict 1 of 2 ends\nb\n<<<<<<< Conflict 2 of 2\n\
         +++++++ left (no terminating newline)\nl\n------- base\nb\n+++++++ right\nr\n\
         >>>>>>> Conflict 2 of 2 ends\n";
+    assert_eq!(rt; text.as_slice(), expected.as_bytes());
+    assert!(rt; is_same);
+    Ok(())
+}
+
+#[test]
+fn diff_style(rt: HostRuntime) -> Result<(), Fail> {
+    let alloc = rt.alloc();
+    let mut hunks = Vec::new(alloc);
+    hunks.push(merge_of(alloc, &["a\nx\nc\n", "a\nb\nc\n", "r\n"])?)?;
+    hunks.push(merge_of(alloc, &["b\n"])?)?;
+    hunks.push(merge_of(alloc, &["l", "b\n", "r\n"])?)?;
+    let (text, is_same) = render(alloc, &hunks, ConflictMarkerStyle::Diff)?;
+    let expected = "<<<<<<< Conflict 1 of 2\n%%%%%%% from base to left\n a\n-b\n+x\n c\n\
+        +++++++ right\nr\n>>>>>>> Conflict 1 of 2 ends\nb\n<<<<<<< Conflict 2 of 2\n\
+        +++++++ left (no terminating newline)\nl\n------- base\nb\n+++++++ right\nr\n\
+        >>>>>>> Conflict 2 of 2 ends\n";
+    assert_eq!(rt; text.as_slice(), expected.as_bytes());
+    assert!(rt; is_same);
+    Ok(())
+}
+
+// A line of six minus signs is no marker, also with a character before it.
+#[test]
+fn diff_style_with_runs(rt: HostRuntime) -> Result<(), Fail> {
+    let alloc = rt.alloc();
+    let mut hunks = Vec::new(alloc);
+    hunks.push(merge_of(alloc, &["l\n", "------\n", "r\n"])?)?;
+    let (text, is_same) = render(alloc, &hunks, ConflictMarkerStyle::Diff)?;
+    let expected = "<<<<<<<< Conflict 1 of 1\n%%%%%%%% from base to left\n-------\n+l\n\
+        ++++++++ right\nr\n>>>>>>>> Conflict 1 of 1 ends\n";
     assert_eq!(rt; text.as_slice(), expected.as_bytes());
     assert!(rt; is_same);
     Ok(())
@@ -126,6 +157,17 @@ fn malformed(rt: HostRuntime) -> Result<(), Fail> {
             false,
         ),
         ("<<<<<<<\n+++++++\na\n-------\nb\n+++++++\nc\n", 2, false),
+        ("<<<<<<<\n%%%%%%%\n-b\n+a\n+++++++\nc\n>>>>>>>\n", 2, true),
+        ("<<<<<<<\n+++++++\na\n%%%%%%%\n-b\n+c\n>>>>>>>\n", 2, true),
+        ("<<<<<<<\n%%%%%%%\n\n-b\n+++++++\nc\n>>>>>>>\n", 2, true),
+        ("<<<<<<<\n%%%%%%%\nb\n+++++++\nc\n>>>>>>>\n", 2, false),
+        ("<<<<<<<\n%%%%%%%\n b\n>>>>>>>\n", 2, false),
+        (
+            "<<<<<<<\n+++++++\na\n+++++++\nb\n+++++++\nc\n>>>>>>>\n",
+            2,
+            false,
+        ),
+        ("<<<<<<<\n%%%%%%%\n b\n+++++++\nc\n>>>>>>>\n", 3, false),
         ("<<<<<<\na\n||||||\nb\n======\nc\n>>>>>>\n", 2, false),
         ("<<<<<<<x\na\n|||||||\nb\n=======\nc\n>>>>>>>\n", 2, false),
         (

@@ -3,8 +3,9 @@ ghost use Rattle.std.specs.Prelude.{◌≡◌, ℕ, ◌+◌, ◌<◌, ◌++◌, 
 ghost use Rattle.std.specs.Option.{option_map};
 ghost use Rattle.jj_conflicts.specs.Lines.{split_lines};
 ghost use Rattle.jj_conflicts.specs.Contents.{contents, merge_contents};
+ghost use Rattle.jj_conflicts.specs.Parsing.{resolved_hunk};
 ghost use Rattle.jj_conflicts.specs.Rendering.{conflict_count};
-ghost use Rattle.jj_conflicts.specs.Parsing.{resolved_hunk, with_conflict, after_start, with_text_line, all_hunks, parsed};
+ghost use Rattle.jj_conflicts.specs.Parsing.{with_conflict, after_start, with_text_line, all_hunks, parsed};
 ghost use Rattle.jj_conflicts.specs.Views.{hunks_view};
 
 use super::render::count_conflicts;

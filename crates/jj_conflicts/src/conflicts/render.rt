@@ -1,11 +1,13 @@
 //! Rendering of conflicts.
 ghost use Rattle.std.specs.Prelude.{◌≡◌, ℕ, ◌+◌, ◌-◌, ◌^◌, ◌<◌, ◌≤◌, ◌++◌, ◌∷◌, [], List, length, map, string_bytes, drop, IfOk, OnOk, not, codes, false};
 ghost use Rattle.jj_merges.specs.Labels.{labels_as_merge};
+ghost use Rattle.jj_merges.specs.Merge.{IsOdd};
 ghost use Rattle.jj_conflicts.specs.Lines.{is_terminated, terminated};
 ghost use Rattle.jj_conflicts.specs.Contents.{contents, merge_contents};
-ghost use Rattle.jj_conflicts.specs.Rendering.{label_at, term_byte, section, sections, conflict_label, snapshot_text, git_text, conflict_text, conflict_count, rendered_from, rendered};
+ghost use Rattle.jj_conflicts.specs.Rendering.{label_at, term_byte, section, sections, conflict_label, snapshot_text, git_text, conflict_text, conflict_count, IsConflictText, IsRenderedFrom, IsRendered};
 ghost use Rattle.jj_conflicts.specs.Markers.{longest_run, marker_line, marker_len_of_terms, chosen_marker_len};
 
+use super::sections::{are_terminated, diff_sections};
 use super::{ConflictMarkerStyle, MIN_CONFLICT_MARKER_LEN};
 use crate::lines::{is_terminated, split_first_line};
 use crate::markers::{push_marker_line, run_length};
@@ -14,7 +16,8 @@ use jj_merges::conflict_labels::ConflictLabels;
 use jj_merges::merge::Merge;
 use std::alloc::{AllocError, Global};
 
-fn label_at(labels: &[String], index: usize) -> &[u8]
+/// Returns the label of a term, which is empty if there is none.
+pub fn label_at(labels: &[String], index: usize) -> &[u8]
     ensures { result.now ≡ label_at (map string_bytes labels.now) index }
 {
     match labels.get(index) {
@@ -35,7 +38,8 @@ fn push_terminated(text: &mut Vec<u8>, term: &[u8]) -> Result<(), AllocError>
     Ok(())
 }
 
-fn push_section(
+/// Appends a marker line and a term.
+pub fn push_section(
     alloc: Global,
     text: &mut Vec<u8>,
     byte: u8,
@@ -152,35 +156,87 @@ fn push_git(
     push_marker_line(alloc, text, b'>', marker_len, label, !is_terminated(right))
 }
 
-fn push_conflict(
+#[tactic(auto, using(crate::proofs::DiffLoops::conflict_steps))]
+fn diff_conflict(
     alloc: Global,
-    text: &mut Vec<u8>,
+    marker_len: usize,
+    labels: &[String],
+    number: usize,
+    count: usize,
+    terms: &[Vec<u8>],
+) -> Result<Vec<u8>, AllocError>
+    requires { IsOdd (length terms.now) }
+    ensures { IfOk result (λ text. IsConflictText ConflictMarkerStyle.Diff marker_len
+        (map string_bytes labels.now) number count (merge_contents terms.now) text.items) }
+{
+    let mut text = Vec::new(alloc);
+    if !are_terminated(terms) {
+        push_snapshot(alloc, &mut text, marker_len, labels, number, count, terms)?;
+        return Ok(text);
+    }
+    let sections = diff_sections(alloc, marker_len, labels, terms)?;
+    push_start(alloc, &mut text, marker_len, number, count)?;
+    text.extend_from_slice(&sections)?;
+    push_end(alloc, &mut text, marker_len, number, count)?;
+    Ok(text)
+}
+
+// Returns a conflict in Git's style, or as a snapshot if it does not have three terms.
+#[tactic(auto, using(crate::proofs::LoopLaws::git_steps))]
+fn git_conflict(
+    alloc: Global,
+    marker_len: usize,
+    labels: &[String],
+    number: usize,
+    count: usize,
+    terms: &[Vec<u8>],
+) -> Result<Vec<u8>, AllocError>
+    ensures { IfOk result (λ text. text.items ≡ conflict_text ConflictMarkerStyle.Git marker_len
+        (map string_bytes labels.now) number count (merge_contents terms.now)) }
+{
+    let mut text = Vec::new(alloc);
+    if terms.len() == 3 {
+        push_git(
+            alloc, &mut text, marker_len, labels, &terms[0], &terms[1], &terms[2],
+        )?;
+        return Ok(text);
+    }
+    push_snapshot(alloc, &mut text, marker_len, labels, number, count, terms)?;
+    Ok(text)
+}
+
+fn conflict(
+    alloc: Global,
     style: ConflictMarkerStyle,
     marker_len: usize,
     labels: &[String],
     number: usize,
     count: usize,
     terms: &[Vec<u8>],
-) -> Result<(), AllocError>
-    ensures { OnOk result (text.new.items ≡ text.old.items ++ conflict_text style marker_len
-        (map string_bytes labels.now) number count (merge_contents terms.now)) }
+) -> Result<Vec<u8>, AllocError>
+    requires { IsOdd (length terms.now) }
+    ensures { IfOk result (λ text. IsConflictText style marker_len
+        (map string_bytes labels.now) number count (merge_contents terms.now) text.items) }
 {
     match style {
+        ConflictMarkerStyle::Diff => {
+            let text = diff_conflict(alloc, marker_len, labels, number, count, terms)?;
+            Ok(text)
+        }
         ConflictMarkerStyle::Git => {
-            if terms.len() == 3 {
-                return push_git(
-                    alloc, text, marker_len, labels, &terms[0], &terms[1], &terms[2],
-                );
-            }
-            push_snapshot(alloc, text, marker_len, labels, number, count, terms)
+            let text = git_conflict(alloc, marker_len, labels, number, count, terms)?;
+            Ok(text)
         }
         ConflictMarkerStyle::Snapshot => {
-            push_snapshot(alloc, text, marker_len, labels, number, count, terms)
+            let mut text = Vec::new(alloc);
+            push_snapshot(alloc, &mut text, marker_len, labels, number, count, terms)?;
+            Ok(text)
         }
     }
 }
 
 // Appends a hunk after `number` conflicts. Returns the number of conflicts after it.
+#[tactic(auto, using(crate::proofs::LoopLaws::hunk_steps))]
 fn push_hunk(
     alloc: Global,
     text: &mut Vec<u8>,
@@ -191,11 +247,13 @@ fn push_hunk(
     count: usize,
     terms: &[Vec<u8>],
 ) -> Result<usize, AllocError>
-    requires { number < 2 ^ 64 - 1 }
-    ensures appended { IfOk result (λ next. (rest : List (List (List ℕ))) → text.new.items
-        ++ rendered_from style marker_len (map string_bytes labels.now) next count rest
-        ≡ text.old.items ++ rendered_from style marker_len (map string_bytes labels.now) number
-        count (merge_contents terms.now ∷ rest)) }
+    requires number { number < 2 ^ 64 - 1 }
+    requires odd { IsOdd (length terms.now) }
+    ensures appended { IfOk result (λ next. (rest : List (List (List ℕ))) (tail : List ℕ)
+        → IsRenderedFrom style marker_len (map string_bytes labels.now) next count rest tail
+        → (whole : List ℕ) × (IsRenderedFrom style marker_len (map string_bytes labels.now) number
+        count (merge_contents terms.now ∷ rest) whole
+        × (text.new.items ++ tail ≡ text.old.items ++ whole))) }
     ensures next { IfOk result (λ next. next ≤ number + 1) }
 {
     if terms.len() == 1 {
@@ -203,7 +261,8 @@ fn push_hunk(
         return Ok(number);
     }
     let next = number + 1;
-    push_conflict(alloc, text, style, marker_len, labels, next, count, terms)?;
+    let conflict = conflict(alloc, style, marker_len, labels, next, count, terms)?;
+    text.extend_from_slice(&conflict)?;
     Ok(next)
 }
 
@@ -239,13 +298,14 @@ fn marker_len_of_terms(terms: &[Vec<u8>], marker_len: usize) -> usize
 {
     let mut marker_len = marker_len;
     for term in terms {
-        marker_len = marker_len.max(longest_run(term) + 1);
+        marker_len = marker_len.max(longest_run(term) + 2);
     }
     marker_len
 }
 
 /// Returns a length for markers that no run of a marker character at the start of a line has:
-/// `MIN_CONFLICT_MARKER_LEN`, or one more than the longest run. Linear.
+/// `MIN_CONFLICT_MARKER_LEN`, or two more than the longest run, as the diff style puts a character
+/// before a line. Linear.
 pub fn choose_materialized_conflict_marker_len(hunks: &[Merge<Vec<u8>>]) -> usize
     ensures { result ≡ chosen_marker_len (contents hunks.now) }
 {
@@ -261,6 +321,7 @@ pub fn choose_materialized_conflict_marker_len(hunks: &[Merge<Vec<u8>>]) -> usiz
 ///
 /// Labels are those of the terms: a label that is empty, contains LF, or ends as the note does is
 /// left out. Linear.
+#[tactic(auto, using(crate::proofs::LoopLaws::hunks_steps))]
 pub fn materialize(
     alloc: Global,
     hunks: &[Merge<Vec<u8>>],
@@ -268,8 +329,8 @@ pub fn materialize(
     style: ConflictMarkerStyle,
     marker_len: usize,
 ) -> Result<Vec<u8>, AllocError>
-    ensures { IfOk result (λ text. text.items ≡ rendered style marker_len
-        (labels_as_merge labels.now) (contents hunks.now)) }
+    ensures { IfOk result (λ text. IsRendered style marker_len
+        (labels_as_merge labels.now) (contents hunks.now) text.items) }
 {
     let labels = labels.as_merge().as_slice();
     let count = count_conflicts(hunks);

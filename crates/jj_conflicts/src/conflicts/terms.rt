@@ -1,11 +1,12 @@
 //! The terms of one conflict: a section for each, and marker lines between them.
-ghost use Rattle.std.specs.Prelude.{◌≡◌, ℕ, ◌+◌, ◌<◌, length, IfOk, OnOk};
+ghost use Rattle.std.specs.Prelude.{◌≡◌, ℕ, ◌+◌, ◌<◌, false, length, IfOk, OnOk};
 ghost use Rattle.std.specs.Option.{option_map};
 ghost use Rattle.jj_conflicts.specs.Lines.{split_lines};
 ghost use Rattle.jj_conflicts.specs.Contents.{merge_contents};
-ghost use Rattle.jj_conflicts.specs.Parsing.{term_of, separator_byte, is_separator, with_separator, with_line, with_lines, first_term, has_sides, finished_terms, terms_of};
+ghost use Rattle.jj_conflicts.specs.Parsing.{term_of, separator_byte, is_separator, with_separator, with_line, with_lines, first_term, has_sides, finished_terms, first_some, section_lines, terms_of};
 ghost use Rattle.jj_conflicts.specs.Views.{terms_view};
 
+use super::section_terms::parse_diff_sections;
 use crate::lines::split_first_line;
 use crate::markers::{has_note, marker_of};
 use jj_merges::merge::Merge;
@@ -55,7 +56,8 @@ fn has_sides(num_sides: usize, finished: usize) -> bool
     finished % 2 == 0 && finished / 2 + 1 == num_sides
 }
 
-fn term_of(is_noted: bool, lines: Vec<u8>) -> Vec<u8>
+/// Returns the term of a section's lines.
+pub fn term_of(is_noted: bool, lines: Vec<u8>) -> Vec<u8>
     ensures { result.items ≡ term_of is_noted lines.items }
 {
     let mut lines = lines;
@@ -168,9 +170,32 @@ fn parse_sections(
     terms.finish(num_sides, is_git, end)
 }
 
+// Parses the lines of a conflict whose first section is a side: in the snapshot style, or else in
+// the diff style.
+#[tactic(auto, using(crate::proofs::ParseLaws::first_steps))]
+fn parse_after_side(
+    alloc: Global,
+    marker_len: usize,
+    num_sides: usize,
+    lines: &[u8],
+    first: &[u8],
+    rest: &[u8],
+    end: &[u8],
+) -> Result<Option<Merge<Vec<u8>>>, AllocError>
+    ensures { IfOk result (λ terms. option_map merge_contents terms
+        ≡ first_some (finished_terms num_sides false
+        (with_lines marker_len false (first_term first.now) (split_lines rest.now)) end.now)
+        (section_lines marker_len num_sides (split_lines lines.now))) }
+{
+    match parse_sections(alloc, marker_len, num_sides, false, first, rest, end)? {
+        Some(terms) => Ok(Some(terms)),
+        None => parse_diff_sections(alloc, marker_len, num_sides, lines),
+    }
+}
+
 /// Parses the lines of a conflict: `pending` from the line that starts it, and the line that ends
 /// it. Returns `None` if its markers are not in order or it does not have `num_sides` sides.
-#[tactic(auto, using(crate::proofs::ParseLaws::no_lines, crate::proofs::ParseLaws::one_line_only, crate::proofs::ParseLaws::snapshot_lines, crate::proofs::ParseLaws::git_lines))]
+#[tactic(auto, using(crate::proofs::ParseLaws::no_lines, crate::proofs::ParseLaws::one_line_only, crate::proofs::ParseLaws::diff_lines, crate::proofs::ParseLaws::snapshot_lines, crate::proofs::ParseLaws::git_lines))]
 pub fn parse_terms(
     alloc: Global,
     marker_len: usize,
@@ -189,9 +214,12 @@ pub fn parse_terms(
         return Ok(None);
     }
     let (line, sections) = split_first_line(rest);
-    if marker_of(line, marker_len) == b'+' {
-        parse_sections(alloc, marker_len, num_sides, false, line, sections, end)
-    } else {
-        parse_sections(alloc, marker_len, num_sides, true, start, rest, end)
+    let byte = marker_of(line, marker_len);
+    if byte == b'%' {
+        return parse_diff_sections(alloc, marker_len, num_sides, rest);
     }
+    if byte == b'+' {
+        return parse_after_side(alloc, marker_len, num_sides, rest, line, sections, end);
+    }
+    parse_sections(alloc, marker_len, num_sides, true, start, rest, end)
 }
