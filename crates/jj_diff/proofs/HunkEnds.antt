@@ -1,28 +1,18 @@
 -- The first and the last hunk of a comparison.
-use Rattle.std.proofs.Common.{◌≡◌, ◌≢◌, ℕ, suc, zero, ◌+◌, ◌-◌, ◌<◌, ◌≤◌, List, [], ◌∷◌, ◌++◌, length, take, drop, get_or, Bor, refl, ap, sym, ◌∙◌, subst, arith, below_more, replicate, inl, inr, ◌⊎◌, length-drop, length-append}
+use Rattle.std.proofs.Common.{◌≡◌, ℕ, zero, ◌+◌, ◌-◌, ◌<◌, ◌≤◌, List, [], ◌∷◌, ◌++◌, length, take, drop, get_or, Bor, refl, ap, sym, ◌∙◌, subst, arith, below_more, replicate, inl, inr, length-drop, length-append}
 use Rattle.std.proofs.lemmas.Bool.{cases_lt}
-use Rattle.std.proofs.lemmas.List.{take_all, take-append-drop, length-take-le}
+use Rattle.std.proofs.lemmas.List.{take_all}
 use Rattle.std.proofs.lemmas.List.Elements.{All-nil}
 use Rattle.std.proofs.lemmas.Grind.{common_steps, elements}
 use Rattle.std.specs.List.{slice_range}
 use Rattle.jj_diff.specs.declared.diff.hunks.DiffHunk.{DiffHunk}
-use Rattle.jj_diff.specs.declared.diff.hunks.DiffHunkKind.{DiffHunkKind}
 use Rattle.jj_diff.specs.declared.diff.hunks.DiffHunkKind.TheVariants.{Matching, Different}
 use Rattle.jj_diff.specs.declared.diff.tokens.Tokenizer.{Tokenizer}
 use Rattle.jj_diff.specs.Tokens.{IsCut}
-use Rattle.jj_diff.specs.Inputs.{bytes_of, AreRanges, AreParts, IsNonempty, IsEmpty, AreEqual}
+use Rattle.jj_diff.specs.Inputs.{bytes_of, AreRanges, AreEqual, AreEqualBy, IsEmpty}
 use Rattle.jj_diff.specs.Ends.{suffix, IsCommonStart, IsCommonEnd, IsWithin}
-use Rattle.jj_diff.specs.Hunks.{row_of, kind_len, matched_len, matched_start, matched_end, IsPrefixDiff, IsDiff, EndsIn, AreCuts, AreStarts, AreLimits, IsBefore, MatchesEnds, IsHunk}
+use Rattle.jj_diff.specs.Hunks.{row_of, kind_len, matched_len, matched_start, matched_end, IsPrefixDiff, IsDiffBy, AllMatch, AreTrimmed, IsTrimmed, StartsWith, AreCuts, AreStarts, AreLimits, IsMatch, IsProgress, MatchesEnds, IsHunkBy}
 use Rattle.jj_diff.proofs.Rows.{take-slice_range, prefix_whole, cut_whole, no_cuts, length-bytes_of, none, none_at}
-
--- another hunk keeps what matches at the start
-pub matched_start_push : (hs : List DiffHunk) (h : DiffHunk) → matched_start hs ≤ matched_start (hs ++ h ∷ [])
-matched_start_push [] h = omega arith
-matched_start_push (g ∷ hs) h = omega arith
-
--- the only hunk is what matches at the start
-pub matched_start_one : (hs : List DiffHunk) (h : DiffHunk) → hs ≡ [] → matched_start (hs ++ h ∷ []) ≡ matched_len h
-matched_start_one hs h e = ap (λ gs. matched_start (gs ++ h ∷ [])) e
 
 -- the last hunk is what matches at the end
 pub matched_end_push : (hs : List DiffHunk) (h : DiffHunk) → matched_end (hs ++ h ∷ []) ≡ matched_len h
@@ -34,63 +24,12 @@ pub matched_len_of : (h : DiffHunk) → h.kind ≡ Matching → matched_len h �
 matched_len_of h e = ap (λ k. kind_len k (length (get_or (row_of h) 0 []))) e
 
 -- the whole prefix of this length
-range_from_zero : (xs : List ℕ) (n : ℕ) → slice_range xs 0 n ≡ take n xs
-range_from_zero xs n = take-slice_range xs 0 n (omega arith)
+range_from : (xs : List ℕ) (a n : ℕ) → a ≡ 0 → slice_range xs a n ≡ take n xs
+range_from xs a n e = ap (λ k. slice_range xs k n) e ∙ take-slice_range xs 0 n (omega arith)
 
 range_to_end : (xs : List ℕ) (a b : ℕ) → b ≡ length xs → slice_range xs a b ≡ drop a xs
 range_to_end xs a b e =
     take_all (b - a) (drop a xs) (omega (arith, length-drop a xs))
-
-module _ (t : Tokenizer) (inputs : List (List ℕ)) (n : ℕ) (zeros starts : List ℕ) where
-  pub start_ranges : IsCommonStart t inputs n → zeros ≡ replicate (length inputs) 0 → AreStarts inputs n starts
-      → AreRanges inputs zeros starts
-  start_ranges common e at = record {
-    starts_len = grind (arith, common_steps);
-    ends_len = at.len;
-    ordered = λ i lt. let z : get_or zeros i 0 ≡ 0 = grind (arith, common_steps, elements) in omega arith;
-    within = λ i lt. omega (arith, at.starts i lt, common.within i lt);
-  }
-
-  pub start_cuts : IsCommonStart t inputs n → AreStarts inputs n starts → AreCuts t inputs starts
-  start_cuts common at i lt = subst (IsCut t (get_or inputs i [])) (sym (at.starts i lt)) (common.cuts i lt)
-
-  start_part : (row : List (List ℕ)) → zeros ≡ replicate (length inputs) 0 → AreStarts inputs n starts
-      → AreParts inputs zeros starts row → (i : ℕ) → i < length inputs → get_or row i [] ≡ take n (get_or inputs i [])
-  start_part row e at is_row i lt =
-      let z : get_or zeros i 0 ≡ 0 = grind (arith, common_steps, elements) in
-      is_row.parts i lt ∙ ap (λ a. slice_range (get_or inputs i []) a (get_or starts i 0)) z
-      ∙ range_from_zero (get_or inputs i []) (get_or starts i 0) ∙ ap (λ k. take k (get_or inputs i [])) (at.starts i lt)
-
-  pub start_equal : (row : List (List ℕ)) → IsCommonStart t inputs n → zeros ≡ replicate (length inputs) 0
-      → AreStarts inputs n starts → AreParts inputs zeros starts row → AreEqual row
-  start_equal row common e at is_row i lt =
-      let mt : i < length inputs = omega (arith, is_row.len) in
-      start_part row e at is_row i mt ∙ common.equal i mt ∙ sym (start_part row e at is_row 0 common.some)
-
-  pub start_len : (row : List (List ℕ)) → IsCommonStart t inputs n → zeros ≡ replicate (length inputs) 0
-      → AreStarts inputs n starts → AreParts inputs zeros starts row → length (get_or row 0 []) ≡ n
-  start_len row common e at is_row =
-      ap length (start_part row e at is_row 0 common.some) ∙ length-take-le n (get_or inputs 0 []) (common.within 0 common.some)
-
-  pub start_nonempty : (row : List (List ℕ)) → IsCommonStart t inputs n → zeros ≡ replicate (length inputs) 0
-      → AreStarts inputs n starts → AreParts inputs zeros starts row → n ≢ 0 → IsNonempty row
-  start_nonempty row common e at is_row ne =
-      (0, omega (arith, is_row.len, common.some), omega (arith, start_len row common e at is_row))
-
-pub start_none : (t : Tokenizer) (inputs : List (List ℕ)) (starts : List ℕ) → AreStarts inputs 0 starts
-    → IsPrefixDiff t inputs [] starts
-start_none t inputs starts at = record {
-  len = at.len;
-  within = λ i lt. omega (arith, at.starts i lt);
-  sides = λ i lt. rw (at.starts i lt) refl;
-  hunks = All-nil (IsHunk (length inputs));
-  alternate = tt;
-  cuts = λ k i le lt. no_cuts t (get_or inputs i []) i k;
-}
-
-pub zeros_none : (t : Tokenizer) (inputs : List (List ℕ)) (n : ℕ) (starts : List ℕ) → n ≡ 0 → AreStarts inputs n starts
-    → IsPrefixDiff t inputs [] starts
-zeros_none t inputs n starts e at = start_none t inputs starts (subst (λ k. AreStarts inputs k starts) e at)
 
 pub starts_of : (inputs : List (List ℕ)) (n m : ℕ) (starts : List ℕ) → m ≡ length inputs → starts ≡ replicate m n → AreStarts inputs n starts
 starts_of inputs n m starts f e = record {
@@ -98,53 +37,91 @@ starts_of inputs n m starts f e = record {
   starts = λ i lt. grind (arith, common_steps, elements);
 }
 
-module _ (t : Tokenizer) (inputs : List (List ℕ)) (n : ℕ) (starts ends : List ℕ) where
-  pub end_at : AreLimits inputs 0 ends → (i : ℕ) → i < length inputs → get_or ends i 0 ≡ length (get_or inputs i [])
-  end_at to i lt = omega (arith, to.limits i lt)
+module _ (form : List ℕ → List ℕ) (t : Tokenizer) (inputs : List (List ℕ)) where
+  start_part : (i n : ℕ) (from at : List ℕ) → AreStarts inputs 0 from → AreStarts inputs n at → i < length inputs
+      → slice_range (get_or inputs i []) (get_or from i 0) (get_or at i 0) ≡ take n (get_or inputs i [])
+  start_part i n from at zeros starts lt =
+      range_from (get_or inputs i []) (get_or from i 0) (get_or at i 0) (zeros.starts i lt)
+      ∙ ap (λ k. take k (get_or inputs i [])) (starts.starts i lt)
 
-  pub end_ranges : AreLimits inputs n starts → AreLimits inputs 0 ends → AreRanges inputs starts ends
-  end_ranges from to = record {
-    starts_len = from.len;
+  -- no hunk, and the common start
+  pub progress_start : (n : ℕ) (hs : List DiffHunk) (from at : List ℕ) → IsCommonStart t inputs n → AreStarts inputs 0 from
+      → AreStarts inputs n at → hs ≡ [] → IsProgress form t inputs hs from at
+  progress_start n hs from at common zeros starts e = subst (λ gs. IsProgress form t inputs gs from at) (sym e) (record {
+    prefix = record {
+      len = zeros.len;
+      within = λ i lt. omega (arith, zeros.starts i lt);
+      sides = λ i lt. rw (zeros.starts i lt) refl;
+      hunks = All-nil (IsHunkBy form (length inputs));
+      alternate = tt;
+      cuts = λ k i le lt. no_cuts t (get_or inputs i []) i k;
+    };
+    trimmed = All-nil (λ h. h.kind ≡ Different → IsTrimmed t (row_of h));
+    last = tt;
+    pending = record {
+      ranges = record {
+        starts_len = zeros.len;
+        ends_len = starts.len;
+        ordered = λ i lt. omega (arith, zeros.starts i lt);
+        within = λ i lt. omega (arith, starts.starts i lt, common.within i lt);
+      };
+      cuts = λ i lt. subst (IsCut t (get_or inputs i [])) (sym (starts.starts i lt)) (common.cuts i lt);
+      equal = λ i lt. ap form (
+          start_part i n from at zeros starts lt ∙ common.equal i lt ∙ sym (start_part 0 n from at zeros starts common.some));
+    };
+  })
+
+  -- from the common start to the common end
+  pub ranges_between_ends : (p n : ℕ) (at : List ℕ) → AreStarts inputs p at → IsCommonEnd t inputs p n
+      → (limits : List ℕ) → AreLimits inputs n limits → AreRanges inputs at limits
+  ranges_between_ends p n at starts common limits to = record {
+    starts_len = starts.len;
     ends_len = to.len;
-    ordered = λ i lt. omega (arith, from.limits i lt, to.limits i lt);
+    ordered = λ i lt. omega (arith, starts.starts i lt, to.limits i lt, common.within i lt);
     within = λ i lt. omega (arith, to.limits i lt);
   }
 
-  pub end_cuts : AreLimits inputs 0 ends → AreCuts t inputs ends
-  end_cuts to i lt = subst (IsCut t (get_or inputs i [])) (sym (end_at to i lt)) (cut_whole t (get_or inputs i []))
+  pub start_at : (n : ℕ) (hs : List DiffHunk) (at : List ℕ) → 0 < length inputs → AreStarts inputs n at → hs ≡ []
+      → StartsWith n hs at
+  start_at n hs at some starts e =
+      subst (λ gs. StartsWith n gs at) (sym e) (omega (arith, starts.starts 0 some))
 
-  end_part : (row : List (List ℕ)) → AreLimits inputs n starts → AreLimits inputs 0 ends
-      → AreParts inputs starts ends row → (i : ℕ) → i < length inputs → get_or row i [] ≡ suffix n (get_or inputs i [])
-  end_part row from to is_row i lt =
-      is_row.parts i lt ∙ range_to_end (get_or inputs i []) (get_or starts i 0) (get_or ends i 0) (end_at to i lt)
+  end_part : (i n : ℕ) (starts ends : List ℕ) → AreLimits inputs n starts → AreLimits inputs 0 ends → i < length inputs
+      → slice_range (get_or inputs i []) (get_or starts i 0) (get_or ends i 0) ≡ suffix n (get_or inputs i [])
+  end_part i n starts ends from to lt =
+      range_to_end (get_or inputs i []) (get_or starts i 0) (get_or ends i 0) (omega (arith, to.limits i lt))
       ∙ ap (λ k. drop k (get_or inputs i [])) (from.limits i lt)
 
-  pub end_equal : (row : List (List ℕ)) → IsCommonEnd t inputs 0 n → AreLimits inputs n starts → AreLimits inputs 0 ends
-      → AreParts inputs starts ends row → AreEqual row
-  end_equal row common from to is_row i lt =
-      let mt : i < length inputs = omega (arith, is_row.len) in
-      end_part row from to is_row i mt ∙ common.equal i mt ∙ sym (end_part row from to is_row 0 common.some)
+  -- the common end
+  pub match_end : (n : ℕ) (starts ends : List ℕ) → IsCommonEnd t inputs 0 n → AreLimits inputs n starts → AreLimits inputs 0 ends
+      → IsMatch form t inputs starts ends
+  match_end n starts ends common from to = record {
+    ranges = record {
+      starts_len = from.len;
+      ends_len = to.len;
+      ordered = λ i lt. omega (arith, from.limits i lt, to.limits i lt);
+      within = λ i lt. omega (arith, to.limits i lt);
+    };
+    cuts = λ i lt.
+        let e : length (get_or inputs i []) ≡ get_or ends i 0 = omega (arith, to.limits i lt) in
+        subst (IsCut t (get_or inputs i [])) e (cut_whole t (get_or inputs i []));
+    equal = λ i lt. ap form (
+        end_part i n starts ends from to lt ∙ common.equal i lt ∙ sym (end_part 0 n starts ends from to common.some));
+  }
 
-  pub end_len : (row : List (List ℕ)) → IsCommonEnd t inputs 0 n → AreLimits inputs n starts → AreLimits inputs 0 ends
-      → AreParts inputs starts ends row → length (get_or row 0 []) ≡ n
-  end_len row common from to is_row =
-      ap length (end_part row from to is_row 0 common.some)
-      ∙ omega (arith, length-drop (length (get_or inputs 0 []) - n) (get_or inputs 0 []), common.within 0 common.some)
+  pub before_end : (n : ℕ) (from starts ends : List ℕ) → IsCommonEnd t inputs 0 n → AreRanges inputs from starts
+      → AreLimits inputs n starts → AreLimits inputs 0 ends → get_or from 0 0 + n ≤ get_or ends 0 0
+  before_end n from starts ends common ranges limits to = omega (
+    arith,
+    ranges.ordered 0 common.some,
+    limits.limits 0 common.some,
+    to.limits 0 common.some,
+    common.within 0 common.some,
+  )
 
-  pub end_nonempty : (row : List (List ℕ)) → IsCommonEnd t inputs 0 n → AreLimits inputs n starts → AreLimits inputs 0 ends
-      → AreParts inputs starts ends row → n ≢ 0 → IsNonempty row
-  end_nonempty row common from to is_row ne =
-      (0, omega (arith, is_row.len, common.some), omega (arith, end_len row common from to is_row))
-
-  pub end_whole : (hs : List DiffHunk) → AreLimits inputs 0 ends → IsPrefixDiff t inputs hs ends → IsDiff t inputs hs
-  end_whole hs to before = prefix_whole t inputs hs ends (end_at to) before
-
-pub limits_zero : (inputs : List (List ℕ)) (n : ℕ) (starts : List ℕ) → n ≡ 0 → AreLimits inputs n starts → AreLimits inputs 0 starts
-limits_zero inputs n starts e from = subst (λ k. AreLimits inputs k starts) e from
-
-pub end_none : (t : Tokenizer) (inputs : List (List ℕ)) (n : ℕ) (starts : List ℕ) (hs : List DiffHunk) → n ≡ 0
-    → AreLimits inputs n starts → IsPrefixDiff t inputs hs starts → IsDiff t inputs hs
-end_none t inputs n starts hs e from before = end_whole t inputs 0 starts starts hs (limits_zero inputs n starts e from) before
+  pub whole_at : (hs : List DiffHunk) (ends : List ℕ) → AreLimits inputs 0 ends → IsPrefixDiff form t inputs hs ends
+      → IsDiffBy form t inputs hs
+  whole_at hs ends to before = prefix_whole form t inputs hs ends (λ i lt. omega (arith, to.limits i lt)) before
 
 pub limit_cuts : (t : Tokenizer) (inputs : List (List ℕ)) (start n : ℕ) (limits : List ℕ) → IsCommonEnd t inputs start n
     → AreLimits inputs n limits → AreCuts t inputs limits
@@ -160,12 +137,6 @@ common_end_zero t inputs start n common = record {
 
 pub start_within : (t : Tokenizer) (inputs : List (List ℕ)) (n : ℕ) → IsCommonStart t inputs n → IsWithin inputs n
 start_within t inputs n common = common.within
-
-pub end_within : (t : Tokenizer) (inputs : List (List ℕ)) (start n : ℕ) → IsCommonEnd t inputs start n → IsWithin inputs n
-end_within t inputs start n common i lt = omega (arith, common.within i lt)
-
-pub zero_within : (inputs : List (List ℕ)) → IsWithin inputs 0
-zero_within inputs i lt = omega arith
 
 push_before : (xs : List ℕ) (x n i : ℕ) → length xs ≡ n → i < n → get_or (xs ++ x ∷ []) i 0 ≡ get_or xs i 0
 push_before xs x n i e lt = grind (arith, common_steps, elements)
@@ -193,65 +164,21 @@ limits_all refs n k xs le ge len before = record {
   limits = λ i lt. before i (omega (arith, length-bytes_of refs));
 }
 
--- a gap, or none
-gap_or_none : (ps qs : List ℕ) (n : ℕ) → ((i : ℕ) → i < n → get_or qs i 0 ≤ get_or ps i 0)
-    ⊎ ((i : ℕ) × (i < n) × (get_or ps i 0 < get_or qs i 0))
-gap_or_none ps qs zero = inl (λ i lt. absurd (omega arith))
-gap_or_none ps qs (suc n) = elim (gap_or_none ps qs n) [
-  | inr gap ↦ inr (gap.0, omega (arith, gap.1), gap.2)
-  | inl none ↦ elim (cases_lt (get_or ps n 0) (get_or qs n 0)) [
-    | inl lt ↦ inr (n, omega arith, lt)
-    | inr le ↦
-        let all : (i : ℕ) → i < n + 1 → get_or qs i 0 ≤ get_or ps i 0 = below_more (λ i. get_or qs i 0 ≤ get_or ps i 0) n none le in
-        inl (λ i lt. all i (omega arith))
-  ]
-]
-
--- inputs that are a common start and a common end are equal
-equal_of_ends : (t : Tokenizer) (inputs : List (List ℕ)) (p n : ℕ) → IsCommonStart t inputs p → IsCommonEnd t inputs p n
-    → ((i : ℕ) → i < length inputs → length (get_or inputs i []) - n ≤ p) → AreEqual inputs
-equal_of_ends t inputs p n start end none i lt =
-    let a : length (get_or inputs i []) - n ≡ p = omega (arith, none i lt, end.within i lt) in
-    let b : length (get_or inputs 0 []) - n ≡ p = omega (arith, none 0 end.some, end.within 0 end.some) in
-    let tails : drop p (get_or inputs i []) ≡ drop p (get_or inputs 0 []) =
-    ap (λ k. drop k (get_or inputs i [])) (sym a) ∙ end.equal i lt ∙ ap (λ k. drop k (get_or inputs 0 [])) b in
-    sym (take-append-drop p (get_or inputs i [])) ∙ ap (λ xs. xs ++ drop p (get_or inputs i [])) (start.equal i lt)
-    ∙ ap (λ xs. take p (get_or inputs 0 []) ++ xs) tails ∙ take-append-drop p (get_or inputs 0 [])
-
--- unequal inputs differ between their common start and their common end
-pub before_of : (t : Tokenizer) (inputs : List (List ℕ)) (p n : ℕ) (starts limits : List ℕ) → ¬ (AreEqual inputs)
-    → IsCommonStart t inputs p → IsCommonEnd t inputs p n → AreStarts inputs p starts → AreLimits inputs n limits
-    → IsBefore inputs starts limits
-before_of t inputs p n starts limits unequal start end at from = record {
-  ranges = record {
-    starts_len = at.len;
-    ends_len = from.len;
-    ordered = λ i lt. omega (arith, at.starts i lt, from.limits i lt, end.within i lt);
-    within = λ i lt. omega (arith, from.limits i lt);
-  };
-  gap = elim (gap_or_none starts limits (length inputs)) [
-    | inr gap ↦ gap
-    | inl none ↦ absurd (unequal (equal_of_ends t inputs p n start end
-        (λ i lt. omega (arith, none i lt, at.starts i lt, from.limits i lt))))
-  ];
-}
-
-pub some_of : (refs : List (Bor (List ℕ))) → ¬ (AreEqual (bytes_of refs)) → 0 < length refs
-some_of refs unequal = elim (cases_lt 0 (length refs)) [
+pub some_of : (form : List ℕ → List ℕ) (refs : List (Bor (List ℕ))) → ¬ (AreEqualBy form (bytes_of refs)) → 0 < length refs
+some_of form refs unequal = elim (cases_lt 0 (length refs)) [
   | inl lt ↦ lt
   | inr le ↦ absurd (unequal (λ i lt. absurd (omega (arith, length-bytes_of refs))))
 ]
 
-length_range : (xs : List ℕ) (a b : ℕ) → b ≤ length xs → length (slice_range xs a b) ≡ b - a
-length_range xs a b le = length-take-le (b - a) (drop a xs) (omega (arith, length-drop a xs))
+differs : Matching ≡ Different → ⊥
+differs e = cc
 
-pub before_nonempty : (inputs : List (List ℕ)) (starts ends : List ℕ) (row : List (List ℕ)) → IsBefore inputs starts ends
-    → AreParts inputs starts ends row → IsNonempty row
-before_nonempty inputs starts ends row before is_row =
-    let i : ℕ = before.gap.0 in
-    let len : length (get_or row i []) ≡ get_or ends i 0 - get_or starts i 0 =
-    ap length (is_row.parts i before.gap.1) ∙ length_range (get_or inputs i []) (get_or starts i 0) (get_or ends i 0) (before.ranges.within i before.gap.1) in
-    (i, omega (arith, is_row.len, before.gap.1), omega (arith, len, before.gap.2))
+-- inputs without a hunk that differs
+pub trimmed_all : (t : Tokenizer) (hs : List DiffHunk) → AllMatch hs → AreTrimmed t hs
+trimmed_all t hs all k d lt = λ e. absurd (differs (sym (all k d lt) ∙ e))
+
+pub equal_by : (form : List ℕ → List ℕ) (row : List (List ℕ)) → AreEqual row → AreEqualBy form row
+equal_by form row same i lt = ap form (same i lt)
 
 -- the whole inputs as no hunk or one
 pub ends_none : (t : Tokenizer) (inputs : List (List ℕ)) → IsEmpty inputs → MatchesEnds t inputs []
@@ -284,12 +211,10 @@ matches_ends t inputs hs p n starts longest_start ends longest_end = record {
       omega (arith, longest_end m after);
 }
 
-pub ruleset start_steps = (start_ranges, start_cuts, start_equal, start_nonempty, zeros_none, start_len)
+pub ruleset start_steps = (starts_of, length-bytes_of)
 
 pub ruleset equal_steps = (ends_none, ends_one)
 
-pub ruleset region_steps = (before_nonempty)
+pub ruleset whole_steps = (start_within, length-bytes_of)
 
-pub ruleset end_steps = (end_ranges, end_cuts, end_equal, end_nonempty, end_whole, end_none, end_len, zero_within)
-
-pub ruleset whole_steps = (some_of, before_of, limit_cuts, common_end_zero, start_within, end_within, starts_of, matches_ends, length-bytes_of)
+pub ruleset compared_steps = (some_of, trimmed_all, equal_by)

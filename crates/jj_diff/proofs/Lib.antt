@@ -1,5 +1,9 @@
 pub mod CommonEnds
+pub mod Gaps
 pub mod HunkEnds
+pub mod Progress
 pub mod Rows
+pub mod Slices
 pub mod TokenEnds
 pub mod TokenRanges
+pub mod Whitespace

@@ -1,8 +1,6 @@
 -- Rows of parts of the inputs, and hunks of them.
-use Rattle.std.proofs.Common.{◌≡◌, ◌≢◌, ℕ, suc, zero, ◌+◌, ◌-◌, ◌<◌, ◌≤◌, List, [], ◌∷◌, ◌++◌, length, map, take, get_or, Bor, refl, ap, sym, ◌∙◌, subst, arith, below_more, length-append, replicate, Bool, true, false, not, ◌==◌, inl, inr}
+use Rattle.std.proofs.Common.{◌≡◌, ◌≢◌, ℕ, suc, zero, ◌+◌, ◌-◌, ◌<◌, ◌≤◌, List, [], ◌∷◌, ◌++◌, length, map, take, get_or, Bor, refl, ap, sym, ◌∙◌, subst, arith, below_more, length-append, Bool, true, not, ◌==◌, inl, inr}
 use Rattle.std.proofs.lemmas.Bool.{cases_lt, eq-eqb}
-use Rattle.std.specs.Str.{bytes_eq}
-use Rattle.std.proofs.lemmas.Slice.Eq.{bytes_eq-Decides}
 use Rattle.std.proofs.lemmas.Bool.Decides.{Decides-eqb}
 use Rattle.std.proofs.Math.ListN.{get_or-map as map-get}
 use Rattle.std.specs.List.{slice_range, concat}
@@ -17,8 +15,8 @@ use Rattle.jj_diff.specs.declared.diff.hunks.DiffHunkKind.TheVariants.{Matching,
 use Rattle.jj_diff.specs.declared.diff.tokens.Tokenizer.{Tokenizer}
 use Rattle.jj_diff.specs.declared.diff.tokens.Tokenizer.TheVariants.{Lines, Words}
 use Rattle.jj_diff.specs.Tokens.{IsCut}
-use Rattle.jj_diff.specs.Inputs.{bytes_of, side, AreRanges, AreParts, IsEmpty, IsNonempty, AreEqual}
-use Rattle.jj_diff.specs.Hunks.{row_of, Alternate, EndsIn, IsHunk, IsDiff, IsPrefixDiff, AreCuts}
+use Rattle.jj_diff.specs.Inputs.{bytes_of, side, AreRanges, AreParts, IsEmpty, IsNonempty, AreEqual, AreEqualBy}
+use Rattle.jj_diff.specs.Hunks.{row_of, Alternate, EndsIn, IsHunkBy, IsDiffBy, IsPrefixDiff, AreCuts}
 
 -- the bytes of the reference at index i
 pub bytes_at : (refs : List (Bor (List ℕ))) (i : ℕ) (r : Bor (List ℕ)) → i < length refs → r ≡ get_or refs i r
@@ -54,32 +52,6 @@ empty-from_test (x ∷ xs) e = absurd (omega (arith, (Decides-eqb (length (x ∷
 pub row_empty : (refs : List (Bor (List ℕ))) (i : ℕ) (b : Bool) → b ≡ (length (get_or refs i none).now == 0)
     → b ≡ true → get_or (bytes_of refs) i [] ≡ []
 row_empty refs i b e t = none_at refs i ∙ empty-from_test (get_or refs i none).now (sym e ∙ t)
-
-not-false : (b : Bool) → not b ≡ false → b ≡ true
-not-false true e = refl
-not-false false e = cc
-
-pub row_equal : (refs : List (Bor (List ℕ))) (i : ℕ) (b : Bool)
-    → b ≡ not (bytes_eq (get_or refs i none).now (get_or refs 0 none).now)
-    → b ≡ false → get_or (bytes_of refs) i [] ≡ get_or (bytes_of refs) 0 []
-row_equal refs i b e f =
-    let xs : List ℕ = (get_or refs i none).now in
-    let ys : List ℕ = (get_or refs 0 none).now in
-    none_at refs i ∙ ((bytes_eq-Decides xs ys).0 (not-false (bytes_eq xs ys) (sym e ∙ f)) ∙ sym (none_at refs 0))
-
-not-true : (b : Bool) → not b ≡ true → b ≡ false
-not-true false e = refl
-not-true true e = cc
-
-pub row_differs : (refs : List (Bor (List ℕ))) (i : ℕ) (b : Bool)
-    → b ≡ not (bytes_eq (get_or refs i none).now (get_or refs 0 none).now)
-    → b ≡ true → get_or (bytes_of refs) i [] ≢ get_or (bytes_of refs) 0 []
-row_differs refs i b e f same =
-    let xs : List ℕ = (get_or refs i none).now in
-    let ys : List ℕ = (get_or refs 0 none).now in
-    let t : bytes_eq xs ys ≡ true = (bytes_eq-Decides xs ys).1 (sym (none_at refs i) ∙ (same ∙ none_at refs 0)) in
-    let u : bytes_eq xs ys ≡ false = not-true (bytes_eq xs ys) (sym e ∙ f) in
-    absurd (cc)
 
 -- one more part
 pub parts_push : (want : ℕ → List ℕ) (n : ℕ) (refs : List (Bor (List ℕ))) (r : Bor (List ℕ))
@@ -151,25 +123,11 @@ one_cuts t text i (suc k) h e =
     ap (λ xs. length (get_or (row_of h) i [] ++ xs)) none ∙ ap length (append-nil (get_or (row_of h) i []) ∙ e) in
     subst (λ n. IsCut t text n) (sym len) (cut_whole t text)
 
--- no hunk, at the start of all inputs
-pub prefix_none : (t : Tokenizer) (inputs : List (List ℕ)) (zeros : List ℕ) → zeros ≡ replicate (length inputs) 0
-    → IsPrefixDiff t inputs [] zeros
-prefix_none t inputs zeros e = record {
-  len = grind (arith, common_steps);
-  within = λ i lt. grind (arith, common_steps, elements);
-  sides = λ i lt.
-      let z : get_or zeros i 0 ≡ 0 = grind (arith, common_steps, elements) in
-      rw z refl;
-  hunks = All-nil (IsHunk (length inputs));
-  alternate = tt;
-  cuts = λ k i le lt. no_cuts t (get_or inputs i []) i k;
-}
-
-module _ (t : Tokenizer) (inputs : List (List ℕ)) (hs : List DiffHunk) (starts ends : List ℕ) where
+module _ (form : List ℕ → List ℕ) (t : Tokenizer) (inputs : List (List ℕ)) (hs : List DiffHunk) (starts ends : List ℕ) where
   -- nothing follows up to `ends`
-  pub prefix_skip : IsPrefixDiff t inputs hs starts → AreRanges inputs starts ends
+  pub prefix_skip : IsPrefixDiff form t inputs hs starts → AreRanges inputs starts ends
       → (row : List (List ℕ)) → AreParts inputs starts ends row → IsEmpty row
-      → IsPrefixDiff t inputs hs ends
+      → IsPrefixDiff form t inputs hs ends
   prefix_skip before ranges row is_row empty = record {
     len = ranges.ends_len;
     within = ranges.within;
@@ -184,7 +142,7 @@ module _ (t : Tokenizer) (inputs : List (List ℕ)) (hs : List DiffHunk) (starts
   }
 
   pushed_side : (h : DiffHunk) → AreRanges inputs starts ends → AreParts inputs starts ends (row_of h)
-      → IsPrefixDiff t inputs hs starts → (i : ℕ) → i < length inputs
+      → IsPrefixDiff form t inputs hs starts → (i : ℕ) → i < length inputs
       → side i (map row_of (hs ++ h ∷ [])) ≡ take (get_or ends i 0) (get_or inputs i [])
   pushed_side h ranges is_row before i lt =
       ap (side i) (map-push row_of hs h) ∙ side-push i (map row_of hs) (row_of h)
@@ -193,15 +151,15 @@ module _ (t : Tokenizer) (inputs : List (List ℕ)) (hs : List DiffHunk) (starts
       ∙ take-slice_range (get_or inputs i []) (get_or starts i 0) (get_or ends i 0) (ranges.ordered i lt)
 
   -- the next hunk
-  prefix_push : (h : DiffHunk) (k : DiffHunkKind) → IsPrefixDiff t inputs hs starts
+  prefix_push : (h : DiffHunk) (k : DiffHunkKind) → IsPrefixDiff form t inputs hs starts
       → AreRanges inputs starts ends → AreCuts t inputs ends → AreParts inputs starts ends (row_of h)
-      → IsNonempty (row_of h) → (h.kind ≡ Matching → AreEqual (row_of h)) → EndsIn k hs → h.kind ≢ k
-      → IsPrefixDiff t inputs (hs ++ h ∷ []) ends
+      → IsNonempty (row_of h) → (h.kind ≡ Matching → AreEqualBy form (row_of h)) → EndsIn k hs → h.kind ≢ k
+      → IsPrefixDiff form t inputs (hs ++ h ∷ []) ends
   prefix_push h k before ranges are_cuts is_row nonempty equal last ne = record {
     len = ranges.ends_len;
     within = ranges.within;
     sides = pushed_side h ranges is_row before;
-    hunks = All-push (IsHunk (length inputs)) hs h before.hunks
+    hunks = All-push (IsHunkBy form (length inputs)) hs h before.hunks
         (record { len = is_row.len; nonempty = nonempty; equal = equal });
     alternate = alternate_next hs h k before.alternate last ne;
     cuts = λ j i le lt. elim (cases_lt (length hs) j) [
@@ -216,24 +174,24 @@ module _ (t : Tokenizer) (inputs : List (List ℕ)) (hs : List DiffHunk) (starts
     ];
   }
 
-  pub prefix_different : (h : DiffHunk) → h.kind ≡ Different → IsPrefixDiff t inputs hs starts
+  pub prefix_different : (h : DiffHunk) → h.kind ≡ Different → IsPrefixDiff form t inputs hs starts
       → AreRanges inputs starts ends → AreCuts t inputs ends → AreParts inputs starts ends (row_of h)
-      → IsNonempty (row_of h) → EndsIn Matching hs → IsPrefixDiff t inputs (hs ++ h ∷ []) ends
+      → IsNonempty (row_of h) → EndsIn Matching hs → IsPrefixDiff form t inputs (hs ++ h ∷ []) ends
   prefix_different h kind before ranges are_cuts is_row nonempty last =
       prefix_push h Matching before ranges are_cuts is_row nonempty (λ e. absurd (differs (sym kind ∙ e))) last (λ e. differs (sym kind ∙ e))
 
-  pub prefix_matching : (h : DiffHunk) → h.kind ≡ Matching → IsPrefixDiff t inputs hs starts
+  pub prefix_matching : (h : DiffHunk) → h.kind ≡ Matching → IsPrefixDiff form t inputs hs starts
       → AreRanges inputs starts ends → AreCuts t inputs ends → AreParts inputs starts ends (row_of h)
-      → IsNonempty (row_of h) → AreEqual (row_of h) → EndsIn Different hs
-      → IsPrefixDiff t inputs (hs ++ h ∷ []) ends
+      → IsNonempty (row_of h) → AreEqualBy form (row_of h) → EndsIn Different hs
+      → IsPrefixDiff form t inputs (hs ++ h ∷ []) ends
   prefix_matching h kind before ranges are_cuts is_row nonempty equal last =
       prefix_push h Different before ranges are_cuts is_row nonempty (λ e. equal) last (λ e. differs (sym e ∙ kind))
 
 -- the hunks reach the end of all inputs
-pub prefix_whole : (t : Tokenizer) (inputs : List (List ℕ)) (hs : List DiffHunk) (ends : List ℕ)
+pub prefix_whole : (form : List ℕ → List ℕ) (t : Tokenizer) (inputs : List (List ℕ)) (hs : List DiffHunk) (ends : List ℕ)
     → ((i : ℕ) → i < length inputs → get_or ends i 0 ≡ length (get_or inputs i []))
-    → IsPrefixDiff t inputs hs ends → IsDiff t inputs hs
-prefix_whole t inputs hs ends whole before = record {
+    → IsPrefixDiff form t inputs hs ends → IsDiffBy form t inputs hs
+prefix_whole form t inputs hs ends whole before = record {
   sides = λ i lt. before.sides i lt ∙ ap (λ n. take n (get_or inputs i [])) (whole i lt) ∙ take_all (length (get_or inputs i [])) (get_or inputs i []) (omega arith);
   hunks = before.hunks;
   alternate = before.alternate;
@@ -243,26 +201,30 @@ prefix_whole t inputs hs ends whole before = record {
 pub ruleset prefix_steps = (prefix_different, prefix_matching, prefix_skip, ends_in_push)
 
 -- no hunk, if all inputs are empty
-pub whole_none : (t : Tokenizer) (inputs : List (List ℕ)) → IsEmpty inputs → IsDiff t inputs []
-whole_none t inputs empty = record {
+pub whole_none : (form : List ℕ → List ℕ) (t : Tokenizer) (inputs : List (List ℕ)) → IsEmpty inputs → IsDiffBy form t inputs []
+whole_none form t inputs empty = record {
   sides = λ i lt. sym (empty i lt);
-  hunks = All-nil (IsHunk (length inputs));
+  hunks = All-nil (IsHunkBy form (length inputs));
   alternate = tt;
   cuts = λ k i le lt. no_cuts t (get_or inputs i []) i k;
 }
 
 -- the inputs as one hunk
-pub whole_one : (t : Tokenizer) (inputs : List (List ℕ)) (h : DiffHunk) → row_of h ≡ inputs → IsNonempty inputs
-    → AreEqual inputs → IsDiff t inputs (h ∷ [])
-whole_one t inputs h e nonempty equal = record {
+pub whole_one : (form : List ℕ → List ℕ) (t : Tokenizer) (inputs : List (List ℕ)) (h : DiffHunk) → row_of h ≡ inputs → IsNonempty inputs
+    → (h.kind ≡ Matching → AreEqualBy form inputs) → IsDiffBy form t inputs (h ∷ [])
+whole_one form t inputs h e nonempty equal = record {
   sides = λ i lt. append-nil (get_or (row_of h) i []) ∙ ap (λ row. get_or row i []) e;
-  hunks = All-cons (IsHunk (length inputs)) h [] (record {
+  hunks = All-cons (IsHunkBy form (length inputs)) h [] (record {
     len = ap length e;
     nonempty = subst IsNonempty (sym e) nonempty;
-    equal = λ k. subst AreEqual (sym e) equal;
-  }) (All-nil (IsHunk (length inputs)));
+    equal = λ k. subst (AreEqualBy form) (sym e) (equal k);
+  }) (All-nil (IsHunkBy form (length inputs)));
   alternate = tt;
   cuts = λ k i le lt. one_cuts t (get_or inputs i []) i k h (ap (λ row. get_or row i []) e);
 }
 
-pub ruleset whole_steps = (whole_none, whole_one, length-bytes_of)
+-- a hunk that differs claims nothing of its parts
+pub differs_only : (row : List (List ℕ)) → Different ≡ Matching → AreEqual row
+differs_only row e = absurd (differs e)
+
+pub ruleset whole_steps = (whole_none, differs_only, length-bytes_of)

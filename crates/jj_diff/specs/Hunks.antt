@@ -1,12 +1,12 @@
 -- Hunks of a comparison.
--- Cited by contracts of public items: AllMatch, IsDiff, MatchesEnds.
-use Rattle.std.specs.Prelude.{◌≡◌, ◌≢◌, ℕ, ◌-◌, ◌<◌, ◌≤◌, List, [], ◌∷◌, length, map, take, All, slice_index}
-use Rattle.std.specs.List.{slice_index_or}
+-- Cited by contracts of public items: AllMatch, AreTrimmed, IsDiff, IsDiffBy, MatchesEnds.
+use Rattle.std.specs.Prelude.{◌≡◌, ◌≢◌, ℕ, ◌+◌, ◌-◌, ◌<◌, ◌≤◌, List, [], ◌∷◌, length, map, take, All, slice_index}
+use Rattle.std.specs.List.{slice_index_or, slice_range}
 use Rattle.jj_diff.specs.declared.diff.hunks.DiffHunk.{DiffHunk}
 use Rattle.jj_diff.specs.declared.diff.hunks.DiffHunkKind.{DiffHunkKind}
 use Rattle.jj_diff.specs.declared.diff.hunks.DiffHunkKind.TheVariants.{Matching, Different}
 use Rattle.jj_diff.specs.declared.diff.tokens.Tokenizer.{Tokenizer}
-use Rattle.jj_diff.specs.Inputs.{bytes_of, side, AreEqual, IsNonempty, AreRanges}
+use Rattle.jj_diff.specs.Inputs.{bytes_of, side, AreEqual, AreEqualBy, IsNonempty, AreRanges, AreParts}
 use Rattle.jj_diff.specs.Tokens.{IsCut}
 use Rattle.jj_diff.specs.Ends.{IsCommonStart, IsCommonEnd}
 
@@ -20,22 +20,40 @@ Alternate [] = Unit {0}
 Alternate (k ∷ []) = Unit {0}
 Alternate (k ∷ l ∷ ks) = (k ≢ l) × Alternate (l ∷ ks)
 
--- a part of each of n inputs, not all empty, and all equal if the hunk matches
-pub record IsHunk (n : ℕ) (hunk : DiffHunk) : Type 0 where
+-- a part of each of n inputs, not all empty, and all with one canonical form if the hunk matches
+pub record IsHunkBy (form : List ℕ → List ℕ) (n : ℕ) (hunk : DiffHunk) : Type 0 where
   pub len : length (row_of hunk) ≡ n
   pub nonempty : IsNonempty (row_of hunk)
-  pub equal : hunk.kind ≡ Matching → AreEqual (row_of hunk)
+  pub equal : hunk.kind ≡ Matching → AreEqualBy form (row_of hunk)
 
--- The hunks compare the inputs: parts i of all hunks are input i, kinds alternate, no hunk is
--- empty in all inputs, matching hunks have equal parts, and no hunk starts or ends within a token.
-pub record IsDiff (tokenizer : Tokenizer) (inputs : List (List ℕ)) (diff : List DiffHunk)
-    : Type 0 where
+-- The hunks compare the inputs: parts i of all hunks are input i, kinds alternate, no hunk is empty
+-- in all inputs, the parts of a matching hunk have one canonical form, and no hunk starts or ends
+-- within a token.
+pub record IsDiffBy (form : List ℕ → List ℕ) (tokenizer : Tokenizer) (inputs : List (List ℕ))
+    (diff : List DiffHunk) : Type 0 where
   pub sides : (i : ℕ) → i < length inputs
       → side i (map row_of diff) ≡ slice_index_or inputs i []
-  pub hunks : All (IsHunk (length inputs)) diff
+  pub hunks : All (IsHunkBy form (length inputs)) diff
   pub alternate : Alternate (map (λ hunk. hunk.kind) diff)
   pub cuts : (k i : ℕ) → k ≤ length diff → i < length inputs
       → IsCut tokenizer (slice_index_or inputs i []) (length (side i (map row_of (take k diff))))
+
+-- a part of each of n inputs, not all empty, and all equal if the hunk matches
+abbrev pub IsHunk : ℕ → DiffHunk → Type 0
+IsHunk = IsHunkBy (λ text. text)
+
+-- the hunks compare the inputs, and matching hunks have equal parts
+abbrev pub IsDiff : Tokenizer → List (List ℕ) → List DiffHunk → Type 0
+IsDiff = IsDiffBy (λ text. text)
+
+-- not all parts of the row start with the same tokens, and not all end with the same tokens
+pub record IsTrimmed (tokenizer : Tokenizer) (row : List (List ℕ)) : Type 0 where
+  pub start : (n : ℕ) → IsCommonStart tokenizer row n → n ≡ 0
+  pub end : (n : ℕ) → IsCommonEnd tokenizer row 0 n → n ≡ 0
+
+-- No hunk that differs starts with a token that is equal in all inputs, nor ends with one.
+abbrev pub AreTrimmed : Tokenizer → List DiffHunk → Type 0
+AreTrimmed tokenizer = All (λ hunk. hunk.kind ≡ Different → IsTrimmed tokenizer (row_of hunk))
 
 -- no hunk differs; since kinds alternate, there is at most one
 abbrev pub AllMatch : List DiffHunk → Type 0
@@ -69,14 +87,14 @@ pub record MatchesEnds (tokenizer : Tokenizer) (inputs : List (List ℕ)) (diff 
 -- Machinery of private functions.
 
 -- the hunks compare the inputs up to `ends`
-pub record IsPrefixDiff (tokenizer : Tokenizer) (inputs : List (List ℕ)) (diff : List DiffHunk)
-    (ends : List ℕ) : Type 0 where
+pub record IsPrefixDiff (form : List ℕ → List ℕ) (tokenizer : Tokenizer) (inputs : List (List ℕ))
+    (diff : List DiffHunk) (ends : List ℕ) : Type 0 where
   pub len : length ends ≡ length inputs
   pub within : (i : ℕ) → i < length inputs
       → slice_index ends i ≤ length (slice_index_or inputs i [])
   pub sides : (i : ℕ) → i < length inputs
       → side i (map row_of diff) ≡ take (slice_index ends i) (slice_index_or inputs i [])
-  pub hunks : All (IsHunk (length inputs)) diff
+  pub hunks : All (IsHunkBy form (length inputs)) diff
   pub alternate : Alternate (map (λ hunk. hunk.kind) diff)
   pub cuts : (k i : ℕ) → k ≤ length diff → i < length inputs
       → IsCut tokenizer (slice_index_or inputs i []) (length (side i (map row_of (take k diff))))
@@ -92,10 +110,28 @@ EndsIn k [] = Unit {0}
 EndsIn k (h ∷ []) = h.kind ≡ k
 EndsIn k (h ∷ i ∷ hs) = EndsIn k (i ∷ hs)
 
--- from `starts` to `ends` are ranges within the inputs, not all empty
-pub record IsBefore (inputs : List (List ℕ)) (starts ends : List ℕ) : Type 0 where
+-- some range from `starts` to `ends` is not empty
+abbrev pub HasGap : List (List ℕ) → List ℕ → List ℕ → Type 0
+HasGap inputs starts ends =
+    (i : ℕ) × (i < length inputs) × (slice_index starts i < slice_index ends i)
+
+-- the ranges from `starts` to `ends` have one canonical form
+abbrev pub AreRangesEqual : (List ℕ → List ℕ) → List (List ℕ) → List ℕ → List ℕ → Type 0
+AreRangesEqual form inputs starts ends = (i : ℕ) → i < length inputs
+    → form (slice_range (slice_index_or inputs i []) (slice_index starts i) (slice_index ends i))
+    ≡ form (slice_range (slice_index_or inputs 0 []) (slice_index starts 0) (slice_index ends 0))
+
+-- the ranges from `starts` to `ends` match, and end at tokens
+pub record IsMatch (form : List ℕ → List ℕ) (tokenizer : Tokenizer) (inputs : List (List ℕ))
+    (starts ends : List ℕ) : Type 0 where
   pub ranges : AreRanges inputs starts ends
-  pub gap : (i : ℕ) × (i < length inputs) × (slice_index starts i < slice_index ends i)
+  pub cuts : AreCuts tokenizer inputs ends
+  pub equal : AreRangesEqual form inputs starts ends
+
+-- the first n bytes match, as hunks or, where there is none yet, up to `at`
+abbrev pub StartsWith : ℕ → List DiffHunk → List ℕ → Type 0
+StartsWith n [] at = n ≤ slice_index at 0
+StartsWith n (h ∷ hs) at = n ≤ matched_len h
 
 -- each offset is n
 pub record AreStarts (inputs : List (List ℕ)) (n : ℕ) (offsets : List ℕ) : Type 0 where
@@ -107,3 +143,43 @@ pub record AreLimits (inputs : List (List ℕ)) (n : ℕ) (offsets : List ℕ) :
   pub len : length offsets ≡ length inputs
   pub limits : (i : ℕ) → i < length inputs
       → slice_index offsets i ≡ length (slice_index_or inputs i []) - n
+
+-- each offset is n more than its start
+pub record AreMoved (inputs : List (List ℕ)) (starts : List ℕ) (n : ℕ) (offsets : List ℕ)
+    : Type 0 where
+  pub len : length offsets ≡ length inputs
+  pub moved : (i : ℕ) → i < length inputs → slice_index offsets i ≡ slice_index starts i + n
+
+-- each offset is n less than its end
+pub record AreMovedBack (inputs : List (List ℕ)) (ends : List ℕ) (n : ℕ) (offsets : List ℕ)
+    : Type 0 where
+  pub len : length offsets ≡ length inputs
+  pub moved : (i : ℕ) → i < length inputs → slice_index offsets i + n ≡ slice_index ends i
+
+-- Between `starts` and `ends` all inputs are equal up to `gap_starts` and from `gap_ends` on, and
+-- the rows between are trimmed.
+pub record IsTrimmedGap (tokenizer : Tokenizer) (inputs : List (List ℕ))
+    (starts ends gap_starts gap_ends : List ℕ) : Type 0 where
+  pub before : IsMatch (λ text. text) tokenizer inputs starts gap_starts
+  pub ranges : AreRanges inputs gap_starts gap_ends
+  pub cuts : AreCuts tokenizer inputs gap_ends
+  pub after : IsMatch (λ text. text) tokenizer inputs gap_ends ends
+  pub trimmed : (row : List (List ℕ)) → AreParts inputs gap_starts gap_ends row
+      → IsTrimmed tokenizer row
+
+-- The hunks compare the inputs up to `from`, and from there to `at` the inputs match.
+pub record IsProgress (form : List ℕ → List ℕ) (tokenizer : Tokenizer) (inputs : List (List ℕ))
+    (hunks : List DiffHunk) (from at : List ℕ) : Type 0 where
+  pub prefix : IsPrefixDiff form tokenizer inputs hunks from
+  pub trimmed : AreTrimmed tokenizer hunks
+  pub last : EndsIn Different hunks
+  pub pending : IsMatch form tokenizer inputs from at
+
+-- After `at` the inputs have a region that matches, is not empty and ends before `limits`.
+pub record IsRegion (form : List ℕ → List ℕ) (tokenizer : Tokenizer) (inputs : List (List ℕ))
+    (at starts ends limits : List ℕ) : Type 0 where
+  pub before : AreRanges inputs at starts
+  pub cuts : AreCuts tokenizer inputs starts
+  pub next : IsMatch form tokenizer inputs starts ends
+  pub gap : HasGap inputs starts ends
+  pub after : AreRanges inputs ends limits

@@ -30,6 +30,11 @@ pub record AreParts (inputs : List (List ℕ)) (starts ends : List ℕ) (row : L
 abbrev pub AreEqual : List (List ℕ) → Type 0
 AreEqual row = (i : ℕ) → i < length row → slice_index_or row i [] ≡ slice_index_or row 0 []
 
+-- all parts of the row have one canonical form
+abbrev pub AreEqualBy : (List ℕ → List ℕ) → List (List ℕ) → Type 0
+AreEqualBy form row =
+    (i : ℕ) → i < length row → form (slice_index_or row i []) ≡ form (slice_index_or row 0 [])
+
 -- some part of the row is not empty
 abbrev pub IsNonempty : List (List ℕ) → Type 0
 IsNonempty row = (i : ℕ) × (i < length row) × (0 < length (slice_index_or row i []))

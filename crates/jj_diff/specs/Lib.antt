@@ -1,6 +1,8 @@
 -- in reading order
 pub mod Inputs
 pub mod Tokens
+pub mod Whitespace
+pub mod Compare
 pub mod Ranges
 pub mod Ends
 pub mod Hunks

@@ -1,22 +1,34 @@
 //! Comparison of N byte strings as hunks that match in all of them or differ.
 ghost use Rattle.std.specs.Prelude.{IfOk};
 ghost use Rattle.jj_diff.specs.Inputs.{AreEqual, bytes_of};
-ghost use Rattle.jj_diff.specs.Hunks.{AllMatch, IsDiff, MatchesEnds};
+ghost use Rattle.jj_diff.specs.Hunks.{AllMatch, AreTrimmed, IsDiff, MatchesEnds};
 
 mod common;
+mod compare;
 mod content_diff;
+mod gaps;
 mod hunks;
+mod numbers;
+mod progress;
 mod ranges;
 mod refine;
 mod regions;
+mod rows;
 mod search;
 mod tokens;
+mod whitespace;
 
-pub use content_diff::{ContentDiff, diff};
-pub use hunks::{DiffHunk, DiffHunkKind, MatchedRegion, hunks_of_regions};
+pub use compare::{
+    CompareBytes, CompareBytesExactly, CompareBytesIgnoreAllWhitespace,
+    CompareBytesIgnoreWhitespaceAmount,
+};
+pub use content_diff::{ContentDiff, DiffHunkIterator, diff};
+pub use hunks::{
+    DiffHunk, DiffHunkKind, MatchedRegion, compared_hunks, hunks_of_regions, single_hunk,
+};
 pub use ranges::{find_line_ranges, find_nonword_ranges, find_word_ranges};
-pub use refine::refine_regions;
-pub use regions::find_regions;
+pub use refine::{matched_regions, refine_compared_regions, refine_regions};
+pub use regions::{find_compared_regions, find_regions};
 use std::alloc::{AllocError, Global};
 pub use tokens::{Tokenizer, find_line_ends, find_word_ends};
 
@@ -29,6 +41,7 @@ pub fn diff_by_line<'a>(
     ensures diff { IfOk result (λ hunks. IsDiff Tokenizer.Lines (bytes_of inputs.now) hunks.items) }
     ensures ends { IfOk result
         (λ hunks. MatchesEnds Tokenizer.Lines (bytes_of inputs.now) hunks.items) }
+    ensures trimmed { IfOk result (λ hunks. AreTrimmed Tokenizer.Lines hunks.items) }
     ensures identity { IfOk result
         (λ hunks. AreEqual (bytes_of inputs.now) → AllMatch hunks.items) }
 {

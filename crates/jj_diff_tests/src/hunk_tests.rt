@@ -23,7 +23,7 @@ fn write_hunk(text: &mut Vec<u8>, hunk: &DiffHunk) -> Result<(), AllocError> {
     text.extend_from_slice(hunk.contents[1])
 }
 
-fn write_hunks(alloc: Global, hunks: &[DiffHunk]) -> Result<Vec<u8>, AllocError> {
+pub fn write_hunks(alloc: Global, hunks: &[DiffHunk]) -> Result<Vec<u8>, AllocError> {
     let mut text = Vec::new(alloc);
     for hunk in hunks {
         write_hunk(&mut text, hunk)?;
@@ -38,7 +38,7 @@ fn show(alloc: Global, left: &str, right: &str) -> Result<Vec<u8>, AllocError> {
 
 fn show_words(alloc: Global, left: &str, right: &str) -> Result<Vec<u8>, AllocError> {
     let compared = ContentDiff::by_word(alloc, &[left.as_bytes(), right.as_bytes()])?;
-    write_hunks(alloc, compared.hunks())
+    write_hunks(alloc, &compared.hunks)
 }
 
 #[test]

@@ -2,4 +2,6 @@
 #![tactic(auto)]
 
 #[cfg(test)]
+mod compare_tests;
+#[cfg(test)]
 mod hunk_tests;

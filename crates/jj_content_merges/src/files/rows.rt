@@ -60,7 +60,7 @@ fn merge_by_words<'a>(
         IsTokenMerge Words same_change (bytes_of row.now) (map terms_of merged.items)) }
 {
     let words = ContentDiff::by_word(alloc, row)?;
-    let merged = merge_rows(alloc, words.hunks(), same_change)?;
+    let merged = merge_rows(alloc, &words.hunks, same_change)?;
     Ok(merged)
 }
 

@@ -1,21 +1,30 @@
-//! `ContentDiff`: the comparison of any number of inputs, by lines or by words.
-ghost use Rattle.std.specs.Prelude.{◌≡◌, IfOk};
-ghost use Rattle.jj_diff.specs.Inputs.{AreEqual, bytes_of};
-ghost use Rattle.jj_diff.specs.Hunks.{AllMatch, IsDiff, MatchesEnds};
+//! `ContentDiff`: the comparison of any number of inputs, by lines, by words or by both.
+ghost use Rattle.std.specs.Prelude.{◌≡◌, ◌≤◌, List, length, IfOk, OnOk, OnErr};
+ghost use Rattle.std.specs.Slice.Iter.{iter_rest};
+ghost use Rattle.jj_diff.specs.Inputs.{AreEqual, AreEqualBy, bytes_of};
+ghost use Rattle.jj_diff.specs.Hunks.{AllMatch, AreTrimmed, IsDiff, IsDiffBy, MatchesEnds};
+ghost use Rattle.jj_diff.specs.declared.diff.tokens.Tokenizer.{Tokenizer};
 
-use super::hunks::{DiffHunk, hunks_of_regions};
-use super::refine::refine_regions;
-use super::regions::find_regions;
+use super::compare::{CompareBytes, CompareBytesExactly};
+use super::diff_by_line;
+use super::hunks::{DiffHunk, compared_hunks, single_hunk};
+use super::refine::{matched_regions, refine_compared_regions};
+use super::regions::find_compared_regions;
 use super::tokens::Tokenizer;
-use super::{diff_by_line, find_line_ends};
 use std::alloc::{AllocError, Global};
+use std::slice::Iter;
 
 /// A comparison of any number of inputs.
 #[derive(Drop)]
 pub struct ContentDiff<'a> {
+    /// The inputs.
+    pub inputs: Vec<&'a [u8]>,
     /// The hunks, in order.
     pub hunks: Vec<DiffHunk<'a>>,
 }
+
+/// Iterates over hunks.
+pub type DiffHunkIterator<'b, 'a> = Iter<'b, DiffHunk<'a>>;
 
 // Compares the inputs line by line and then, between lines that match, word by word, each with
 // input `base`.
@@ -27,51 +36,117 @@ fn diff_by_word<'a>(
     ensures diff { IfOk result (λ hunks. IsDiff Tokenizer.Words (bytes_of inputs.now) hunks.items) }
     ensures ends { IfOk result
         (λ hunks. MatchesEnds Tokenizer.Words (bytes_of inputs.now) hunks.items) }
+    ensures trimmed { IfOk result (λ hunks. AreTrimmed Tokenizer.Words hunks.items) }
     ensures identity { IfOk result
         (λ hunks. AreEqual (bytes_of inputs.now) → AllMatch hunks.items) }
 {
-    let mut ends = Vec::with_capacity(alloc, inputs.len())?;
-    for index in 0..inputs.len() {
-        ends.push(find_line_ends(alloc, inputs[index])?)?;
-    }
-    let lines = find_regions(alloc, inputs, &ends, base)?;
-    let regions = refine_regions(alloc, Tokenizer::Words, inputs, base, &lines)?;
-    hunks_of_regions(alloc, Tokenizer::Words, inputs, &regions)
+    let exactly = CompareBytesExactly;
+    let lines = find_compared_regions(alloc, Tokenizer::Lines, &exactly, inputs, base)?;
+    let regions = refine_compared_regions(alloc, Tokenizer::Words, &exactly, inputs, base, &lines)?;
+    compared_hunks(alloc, Tokenizer::Words, &exactly, inputs, &regions)
 }
 
 impl<'a> ContentDiff<'a> {
     /// Compares the inputs line by line, each with the first.
     pub fn by_line(alloc: Global, inputs: &[&'a [u8]]) -> Result<ContentDiff<'a>, AllocError>
+        ensures inputs { IfOk result (λ d. bytes_of d.inputs.items ≡ bytes_of inputs.now) }
         ensures diff { IfOk result
             (λ d. IsDiff Tokenizer.Lines (bytes_of inputs.now) d.hunks.items) }
         ensures ends { IfOk result
             (λ d. MatchesEnds Tokenizer.Lines (bytes_of inputs.now) d.hunks.items) }
+        ensures trimmed { IfOk result (λ d. AreTrimmed Tokenizer.Lines d.hunks.items) }
         ensures identity { IfOk result
             (λ d. AreEqual (bytes_of inputs.now) → AllMatch d.hunks.items) }
     {
         let hunks = diff_by_line(alloc, inputs, 0)?;
-        Ok(ContentDiff { hunks })
+        let inputs = Vec::from_slice(alloc, inputs)?;
+        Ok(ContentDiff { inputs, hunks })
     }
 
     /// Compares the inputs line by line and then, between lines that match, word by word, each with
     /// the first.
     pub fn by_word(alloc: Global, inputs: &[&'a [u8]]) -> Result<ContentDiff<'a>, AllocError>
+        ensures inputs { IfOk result (λ d. bytes_of d.inputs.items ≡ bytes_of inputs.now) }
         ensures diff { IfOk result
             (λ d. IsDiff Tokenizer.Words (bytes_of inputs.now) d.hunks.items) }
         ensures ends { IfOk result
             (λ d. MatchesEnds Tokenizer.Words (bytes_of inputs.now) d.hunks.items) }
+        ensures trimmed { IfOk result (λ d. AreTrimmed Tokenizer.Words d.hunks.items) }
         ensures identity { IfOk result
             (λ d. AreEqual (bytes_of inputs.now) → AllMatch d.hunks.items) }
     {
         let hunks = diff_by_word(alloc, inputs, 0)?;
-        Ok(ContentDiff { hunks })
+        let inputs = Vec::from_slice(alloc, inputs)?;
+        Ok(ContentDiff { inputs, hunks })
+    }
+
+    /// Compares the inputs token by token, each with the first: tokens that are equal under
+    /// `compare` can match.
+    pub fn for_tokenizer<C: CompareBytes>(
+        alloc: Global,
+        inputs: &[&'a [u8]],
+        tokenizer: Tokenizer,
+        compare: &C,
+    ) -> Result<ContentDiff<'a>, AllocError>
+        ensures inputs { IfOk result (λ d. bytes_of d.inputs.items ≡ bytes_of inputs.now) }
+        ensures diff { IfOk result
+            (λ d. IsDiffBy C.canonical tokenizer (bytes_of inputs.now) d.hunks.items) }
+        ensures ends { IfOk result
+            (λ d. MatchesEnds tokenizer (bytes_of inputs.now) d.hunks.items) }
+        ensures trimmed { IfOk result (λ d. AreTrimmed tokenizer d.hunks.items) }
+        ensures identity { IfOk result
+            (λ d. AreEqualBy C.canonical (bytes_of inputs.now) → AllMatch d.hunks.items) }
+    {
+        let regions = find_compared_regions(alloc, tokenizer, compare, inputs, 0)?;
+        let hunks = compared_hunks(alloc, tokenizer, compare, inputs, &regions)?;
+        let inputs = Vec::from_slice(alloc, inputs)?;
+        Ok(ContentDiff { inputs, hunks })
+    }
+
+    /// Returns the inputs as one hunk, which matches if they are equal, or none if they are empty.
+    pub fn unrefined(alloc: Global, inputs: &[&'a [u8]]) -> Result<ContentDiff<'a>, AllocError>
+        ensures inputs { IfOk result (λ d. bytes_of d.inputs.items ≡ bytes_of inputs.now) }
+        ensures diff { IfOk result (λ d. (tokenizer : Tokenizer)
+            → IsDiff tokenizer (bytes_of inputs.now) d.hunks.items) }
+        ensures single { IfOk result (λ d. length d.hunks.items ≤ 1) }
+        ensures identity { IfOk result
+            (λ d. AreEqual (bytes_of inputs.now) → AllMatch d.hunks.items) }
+    {
+        let hunks = single_hunk(alloc, inputs)?;
+        let inputs = Vec::from_slice(alloc, inputs)?;
+        Ok(ContentDiff { inputs, hunks })
+    }
+
+    /// Compares the inputs anew, token by token: tokens of hunks that match are tried first, then
+    /// those between them. Fails if memory runs out; the comparison is then unchanged.
+    pub fn refine_changed_regions<C: CompareBytes>(
+        &mut self,
+        alloc: Global,
+        tokenizer: Tokenizer,
+        compare: &C,
+    ) -> Result<(), AllocError>
+        ensures inputs { self.new.inputs.items ≡ self.old.inputs.items }
+        ensures diff { OnOk result (IsDiffBy C.canonical tokenizer (bytes_of self.old.inputs.items)
+            self.new.hunks.items) }
+        ensures ends { OnOk result
+            (MatchesEnds tokenizer (bytes_of self.old.inputs.items) self.new.hunks.items) }
+        ensures trimmed { OnOk result (AreTrimmed tokenizer self.new.hunks.items) }
+        ensures identity { OnOk result (AreEqualBy C.canonical (bytes_of self.old.inputs.items)
+            → AllMatch self.new.hunks.items) }
+        ensures unchanged { OnErr result (self.new.hunks.items ≡ self.old.hunks.items) }
+    {
+        let known = matched_regions(alloc, self.inputs.len(), &self.hunks)?;
+        let regions = refine_compared_regions(alloc, tokenizer, compare, &self.inputs, 0, &known)?;
+        let hunks = compared_hunks(alloc, tokenizer, compare, &self.inputs, &regions)?;
+        self.hunks = hunks;
+        Ok(())
     }
 
     /// Returns the hunks, in order.
-    pub fn hunks(&self) -> &[DiffHunk<'a>]
-        ensures { result.now ≡ self.now.hunks.items }
+    pub fn hunks(&self) -> DiffHunkIterator<'_, 'a>
+        ensures { iter_rest result ≡ self.now.hunks.items }
     {
-        &self.hunks
+        self.hunks.iter()
     }
 }
 
@@ -80,6 +155,7 @@ pub fn diff<'a>(alloc: Global, inputs: &[&'a [u8]]) -> Result<Vec<DiffHunk<'a>>,
     ensures diff { IfOk result (λ hunks. IsDiff Tokenizer.Words (bytes_of inputs.now) hunks.items) }
     ensures ends { IfOk result
         (λ hunks. MatchesEnds Tokenizer.Words (bytes_of inputs.now) hunks.items) }
+    ensures trimmed { IfOk result (λ hunks. AreTrimmed Tokenizer.Words hunks.items) }
     ensures identity { IfOk result
         (λ hunks. AreEqual (bytes_of inputs.now) → AllMatch hunks.items) }
 {

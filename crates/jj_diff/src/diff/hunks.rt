@@ -1,12 +1,15 @@
 //! Hunks of N inputs: the common start, regions that a search found, and the common end. Each
 //! region is checked, so that the contracts do not depend on the search.
-ghost use Rattle.std.specs.Prelude.{◌≡◌, ◌≢◌, ◌⊎◌, ℕ, ◌+◌, ◌<◌, ◌≤◌, ◌++◌, [], ◌∷◌, length, map, All, IfOk, OnOk, IsTrue, IsFalse, replicate, slice_index};
-ghost use Rattle.std.specs.List.{slice_range, slice_index_or};
-ghost use Rattle.jj_diff.specs.Inputs.{bytes_of, side, AreRanges, AreParts, AreEqual, IsNonempty, IsEmpty};
-ghost use Rattle.jj_diff.specs.Ends.{IsCommonStart, IsCommonEnd, IsWithin};
-ghost use Rattle.jj_diff.specs.Hunks.{IsDiff, MatchesEnds, IsPrefixDiff, EndsIn, AllMatch, AreCuts, AreStarts, AreLimits, IsBefore, matched_start, matched_end};
+ghost use Rattle.std.specs.Prelude.{◌≡◌, ◌⊎◌, ℕ, ◌+◌, ◌<◌, ◌≤◌, List, [], length, IfOk, OnOk, IsTrue, slice_index};
+ghost use Rattle.jj_diff.specs.Inputs.{bytes_of, AreEqual, AreEqualBy, AreRanges, IsNonempty};
+ghost use Rattle.jj_diff.specs.Ends.{IsCommonStart, IsCommonEnd};
+ghost use Rattle.jj_diff.specs.declared.diff.tokens.Tokenizer.{Tokenizer};
+ghost use Rattle.jj_diff.specs.Hunks.{IsDiff, IsDiffBy, MatchesEnds, AllMatch, AreTrimmed, AreStarts, AreLimits, AreCuts, IsMatch, IsProgress, IsRegion, HasGap, StartsWith, matched_start, matched_end};
 
 use super::common::{common_end, common_start};
+use super::compare::{CompareBytes, CompareBytesExactly};
+use super::progress::{Progress, push_matching};
+use super::rows::{are_cuts, are_equal, are_ranges, is_empty, limits, parts};
 use super::tokens::Tokenizer;
 use std::alloc::{AllocError, Global};
 
@@ -31,329 +34,152 @@ pub struct MatchedRegion {
     pub ends: Vec<usize>,
 }
 
-// Returns the part of each input from `starts` to `ends`.
-fn parts<'a>(
-    alloc: Global,
-    inputs: &[&'a [u8]],
-    starts: &[usize],
-    ends: &[usize],
-) -> Result<Vec<&'a [u8]>, AllocError>
-    requires { AreRanges (bytes_of inputs.now) starts.now ends.now }
-    ensures { IfOk result
-        (λ row. AreParts (bytes_of inputs.now) starts.now ends.now (bytes_of row.items)) }
-{
-    let mut row = Vec::with_capacity(alloc, inputs.len())?;
-    for index in 0..inputs.len() {
-        let input = inputs[index];
-        row.push(&input[starts[index]..ends[index]])?;
-    }
-    Ok(row)
-}
-
-fn are_ranges(inputs: &[&[u8]], starts: &[usize], ends: &[usize]) -> bool
-    ensures { IsTrue result → AreRanges (bytes_of inputs.now) starts.now ends.now }
-{
-    if starts.len() != inputs.len() || ends.len() != inputs.len() {
-        return false;
-    }
-    for index in 0..inputs.len() {
-        if starts[index] > ends[index] || ends[index] > inputs[index].len() {
-            return false;
-        }
-    }
-    true
-}
-
-// Whether the ranges from `starts` to `ends` are within the inputs and not all empty.
-fn is_before(inputs: &[&[u8]], starts: &[usize], ends: &[usize]) -> bool
-    ensures { IsTrue result → IsBefore (bytes_of inputs.now) starts.now ends.now }
-{
-    if !are_ranges(inputs, starts, ends) {
-        return false;
-    }
-    for index in 0..inputs.len() {
-        if starts[index] < ends[index] {
-            return true;
-        }
-    }
-    false
-}
-
-fn are_cuts(tokenizer: Tokenizer, inputs: &[&[u8]], offsets: &[usize]) -> bool
-    requires len { length offsets.now ≡ length inputs.now }
-    requires within { (i : ℕ) → i < length inputs.now
-        → slice_index offsets.now i ≤ length (slice_index_or (bytes_of inputs.now) i []) }
-    ensures { IsTrue result → AreCuts tokenizer (bytes_of inputs.now) offsets.now }
-{
-    for index in 0..inputs.len() {
-        if !tokenizer.is_cut(inputs[index], offsets[index]) {
-            return false;
-        }
-    }
-    true
-}
-
-fn are_equal(row: &[&[u8]]) -> bool
-    ensures equal { IsTrue result → AreEqual (bytes_of row.now) }
-    ensures different { IsFalse result → ¬ (AreEqual (bytes_of row.now)) }
-{
-    for index in 1..row.len() {
-        if row[index] != row[0] {
-            return false;
-        }
-    }
-    true
-}
-
-fn is_empty(row: &[&[u8]]) -> bool
-    ensures empty { IsTrue result → IsEmpty (bytes_of row.now) }
-    ensures nonempty { IsFalse result → IsNonempty (bytes_of row.now) }
-{
-    for index in 0..row.len() {
-        if !row[index].is_empty() {
-            return false;
-        }
-    }
-    true
-}
-
-// Appends a hunk that differs.
-#[tactic(auto, using(crate::proofs::Rows::prefix_steps))]
-fn push_different<'a>(
-    tokenizer: Tokenizer,
-    hunks: &mut Vec<DiffHunk<'a>>,
-    inputs: &[&'a [u8]],
-    starts: &[usize],
-    ends: &[usize],
-    row: Vec<&'a [u8]>,
-) -> Result<(), AllocError>
-    requires ranges { AreRanges (bytes_of inputs.now) starts.now ends.now }
-    requires cuts { AreCuts tokenizer (bytes_of inputs.now) ends.now }
-    requires prefix { IsPrefixDiff tokenizer (bytes_of inputs.now) hunks.old.items starts.now }
-    requires last { EndsIn DiffHunkKind.Matching hunks.old.items }
-    requires row { AreParts (bytes_of inputs.now) starts.now ends.now (bytes_of row.items) }
-    requires nonempty { IsNonempty (bytes_of row.items) }
-    ensures prefix { OnOk result
-        (IsPrefixDiff tokenizer (bytes_of inputs.now) hunks.new.items ends.now) }
-    ensures last { OnOk result (EndsIn DiffHunkKind.Different hunks.new.items) }
-    ensures start { OnOk result
-        (matched_start hunks.old.items ≤ matched_start hunks.new.items) }
-{
-    hunks.push(DiffHunk {
-        kind: DiffHunkKind::Different,
-        contents: row,
-    })?;
-    Ok(())
-}
-
-// Appends the hunk between `starts` and `ends`, unless it is empty in all inputs. Returns whether a
-// matching hunk may follow.
-#[tactic(auto, using(crate::proofs::Rows::prefix_steps))]
-fn push_gap<'a>(
+// Whether the region from `starts` to `ends` matches, is not empty, and is between `at` and
+// `limits`.
+#[tactic(auto, using(crate::proofs::Progress::region_steps))]
+fn is_region<C: CompareBytes>(
     alloc: Global,
     tokenizer: Tokenizer,
-    hunks: &mut Vec<DiffHunk<'a>>,
-    inputs: &[&'a [u8]],
+    compare: &C,
+    inputs: &[&[u8]],
+    at: &[usize],
     starts: &[usize],
     ends: &[usize],
+    limits: &[usize],
 ) -> Result<bool, AllocError>
-    requires ranges { AreRanges (bytes_of inputs.now) starts.now ends.now }
-    requires cuts { AreCuts tokenizer (bytes_of inputs.now) ends.now }
-    requires prefix { IsPrefixDiff tokenizer (bytes_of inputs.now) hunks.old.items starts.now }
-    requires last { EndsIn DiffHunkKind.Matching hunks.old.items }
-    ensures prefix { OnOk result
-        (IsPrefixDiff tokenizer (bytes_of inputs.now) hunks.new.items ends.now) }
-    ensures last { IfOk result (λ b. IsTrue b → EndsIn DiffHunkKind.Different hunks.new.items) }
-    ensures empty { IfOk result (λ b. IsFalse b → hunks.new.items ≡ hunks.old.items) }
-    ensures start { OnOk result
-        (matched_start hunks.old.items ≤ matched_start hunks.new.items) }
+    ensures { IfOk result (λ fits. IsTrue fits → IsRegion C.canonical tokenizer
+        (bytes_of inputs.now) at.now starts.now ends.now limits.now) }
 {
-    let row = parts(alloc, inputs, starts, ends)?;
-    if is_empty(&row) {
-        return Ok(hunks.is_empty());
+    if !are_ranges(inputs, at, starts)
+        || !are_ranges(inputs, starts, ends)
+        || !are_ranges(inputs, ends, limits)
+    {
+        return Ok(false);
     }
-    push_different(tokenizer, hunks, inputs, starts, ends, row)?;
+    if !are_cuts(tokenizer, inputs, starts) || !are_cuts(tokenizer, inputs, ends) {
+        return Ok(false);
+    }
+    let row = parts(alloc, inputs, starts, ends)?;
+    if is_empty(&row) || !are_equal(compare, &row) {
+        return Ok(false);
+    }
     Ok(true)
 }
 
-// Appends a matching hunk.
-#[tactic(auto, using(crate::proofs::Rows::prefix_steps))]
-fn push_matching<'a>(
+// Moves on to the region, unless it is empty, is not equal in all inputs, overlaps what matches
+// before it or ends after `limits`.
+fn push_region<'a, C: CompareBytes>(
+    alloc: Global,
     tokenizer: Tokenizer,
-    hunks: &mut Vec<DiffHunk<'a>>,
+    compare: &C,
     inputs: &[&'a [u8]],
-    starts: &[usize],
-    ends: &[usize],
-    row: Vec<&'a [u8]>,
+    progress: &mut Progress<'a>,
+    region: &MatchedRegion,
+    limits: &[usize],
 ) -> Result<(), AllocError>
-    requires ranges { AreRanges (bytes_of inputs.now) starts.now ends.now }
-    requires cuts { AreCuts tokenizer (bytes_of inputs.now) ends.now }
-    requires prefix { IsPrefixDiff tokenizer (bytes_of inputs.now) hunks.old.items starts.now }
-    requires last { EndsIn DiffHunkKind.Different hunks.old.items }
-    requires row { AreParts (bytes_of inputs.now) starts.now ends.now (bytes_of row.items) }
-    requires nonempty { IsNonempty (bytes_of row.items) }
-    requires equal { AreEqual (bytes_of row.items) }
-    ensures prefix { OnOk result
-        (IsPrefixDiff tokenizer (bytes_of inputs.now) hunks.new.items ends.now) }
-    ensures last { OnOk result (EndsIn DiffHunkKind.Matching hunks.new.items) }
-    ensures start { OnOk result
-        (matched_start hunks.old.items ≤ matched_start hunks.new.items) }
-    ensures first { OnOk result (hunks.old.items ≡ []
-        → matched_start hunks.new.items ≡ length (slice_index_or (bytes_of row.entry.items) 0 [])) }
-    ensures end { OnOk result
-        (matched_end hunks.new.items ≡ length (slice_index_or (bytes_of row.entry.items) 0 [])) }
+    requires some { 0 < length inputs.now }
+    requires progress { IsProgress C.canonical tokenizer (bytes_of inputs.now)
+        progress.old.hunks.items progress.old.from.items progress.old.at.items }
+    requires gap { (progress.old.hunks.items ≡ []) ⊎ HasGap (bytes_of inputs.now)
+        progress.old.from.items progress.old.at.items }
+    requires ranges { AreRanges (bytes_of inputs.now) progress.old.at.items limits.now }
+    ensures progress { OnOk result (IsProgress C.canonical tokenizer (bytes_of inputs.now)
+        progress.new.hunks.items progress.new.from.items progress.new.at.items) }
+    ensures gap { OnOk result ((progress.new.hunks.items ≡ []) ⊎ HasGap (bytes_of inputs.now)
+        progress.new.from.items progress.new.at.items) }
+    ensures ranges { OnOk result
+        (AreRanges (bytes_of inputs.now) progress.new.at.items limits.now) }
+    ensures start { OnOk result ((n : ℕ)
+        → StartsWith n progress.old.hunks.items progress.old.at.items
+        → StartsWith n progress.new.hunks.items progress.new.at.items) }
 {
-    hunks.push(DiffHunk {
-        kind: DiffHunkKind::Matching,
-        contents: row,
-    })?;
+    let starts = region.starts.as_slice();
+    let ends = region.ends.as_slice();
+    let fits = is_region(
+        alloc,
+        tokenizer,
+        compare,
+        inputs,
+        &progress.at,
+        starts,
+        ends,
+        limits,
+    )?;
+    if !fits {
+        return Ok(());
+    }
+    progress.advance::<C>(alloc, tokenizer, inputs, starts, ends)?;
     Ok(())
 }
 
-// Appends the region and the hunk before it, unless the region is empty, is not equal in all
-// inputs, follows a matching hunk at once or reaches `limits`. Returns where the hunks end.
-fn push_region<'a, 'b>(
+// Moves on to the regions, in order, and then to the last `len` bytes.
+fn push_regions<'a, C: CompareBytes>(
     alloc: Global,
     tokenizer: Tokenizer,
-    hunks: &mut Vec<DiffHunk<'a>>,
+    compare: &C,
     inputs: &[&'a [u8]],
-    at: &'b [usize],
-    region: &'b MatchedRegion,
-    limits: &[usize],
-) -> Result<&'b [usize], AllocError>
-    requires prefix { IsPrefixDiff tokenizer (bytes_of inputs.now) hunks.old.items at.now }
-    requires last { EndsIn DiffHunkKind.Matching hunks.old.items }
-    requires before { IsBefore (bytes_of inputs.now) at.now limits.now }
-    ensures prefix { IfOk result (λ next.
-        IsPrefixDiff tokenizer (bytes_of inputs.now) hunks.new.items next.now) }
-    ensures last { OnOk result (EndsIn DiffHunkKind.Matching hunks.new.items) }
-    ensures before { IfOk result (λ next. IsBefore (bytes_of inputs.now) next.now limits.now) }
-    ensures start { OnOk result
-        (matched_start hunks.old.items ≤ matched_start hunks.new.items) }
-{
-    if !are_ranges(inputs, at, &region.starts)
-        || !are_ranges(inputs, &region.starts, &region.ends)
-        || !is_before(inputs, &region.ends, limits)
-    {
-        return Ok(at);
-    }
-    if !are_cuts(tokenizer, inputs, &region.starts) || !are_cuts(tokenizer, inputs, &region.ends) {
-        return Ok(at);
-    }
-    let row = parts(alloc, inputs, &region.starts, &region.ends)?;
-    if is_empty(&row) || !are_equal(&row) {
-        return Ok(at);
-    }
-    if !push_gap(alloc, tokenizer, hunks, inputs, at, &region.starts)? {
-        return Ok(at);
-    }
-    push_matching(tokenizer, hunks, inputs, &region.starts, &region.ends, row)?;
-    Ok(&region.ends)
-}
-
-// Returns the offset of the last `len` bytes of each input.
-fn limits(alloc: Global, inputs: &[&[u8]], len: usize) -> Result<Vec<usize>, AllocError>
-    requires { IsWithin (bytes_of inputs.now) len }
-    ensures { IfOk result (λ v. AreLimits (bytes_of inputs.now) len v.items) }
-{
-    let mut result = Vec::with_capacity(alloc, inputs.len())?;
-    for index in 0..inputs.len() {
-        result.push(inputs[index].len() - len)?;
-    }
-    Ok(result)
-}
-
-// Returns the hunk of the first `len` bytes, or none if they are none.
-#[tactic(auto, using(crate::proofs::HunkEnds::start_steps))]
-fn start_hunks<'a>(
-    alloc: Global,
-    tokenizer: Tokenizer,
-    inputs: &[&'a [u8]],
-    len: usize,
-    starts: &[usize],
-) -> Result<Vec<DiffHunk<'a>>, AllocError>
-    requires common { IsCommonStart tokenizer (bytes_of inputs.now) len }
-    requires starts { AreStarts (bytes_of inputs.now) len starts.now }
-    ensures prefix { IfOk result
-        (λ hunks. IsPrefixDiff tokenizer (bytes_of inputs.now) hunks.items starts.now) }
-    ensures last { IfOk result (λ hunks. EndsIn DiffHunkKind.Matching hunks.items) }
-    ensures start { IfOk result (λ hunks. len ≤ matched_start hunks.items) }
-{
-    let zeros = vec![in alloc; 0; inputs.len()]?;
-    let mut hunks = Vec::new(alloc);
-    if len == 0 {
-        return Ok(hunks);
-    }
-    let row = parts(alloc, inputs, &zeros, starts)?;
-    push_matching(tokenizer, &mut hunks, inputs, &zeros, starts, row)?;
-    Ok(hunks)
-}
-
-// Appends the regions, and what is between them, up to `limits`.
-#[tactic(auto, using(crate::proofs::HunkEnds::region_steps))]
-fn push_regions<'a>(
-    alloc: Global,
-    tokenizer: Tokenizer,
-    hunks: &mut Vec<DiffHunk<'a>>,
-    inputs: &[&'a [u8]],
-    starts: &[usize],
+    progress: &mut Progress<'a>,
     regions: &[MatchedRegion],
-    limits: &[usize],
-) -> Result<(), AllocError>
-    requires prefix { IsPrefixDiff tokenizer (bytes_of inputs.now) hunks.old.items starts.now }
-    requires last { EndsIn DiffHunkKind.Matching hunks.old.items }
-    requires before { IsBefore (bytes_of inputs.now) starts.now limits.now }
-    requires cuts { AreCuts tokenizer (bytes_of inputs.now) limits.now }
-    ensures prefix { OnOk result
-        (IsPrefixDiff tokenizer (bytes_of inputs.now) hunks.new.items limits.now) }
-    ensures last { OnOk result (EndsIn DiffHunkKind.Different hunks.new.items) }
-    ensures start { OnOk result
-        (matched_start hunks.old.items ≤ matched_start hunks.new.items) }
-{
-    let mut at: &[usize] = starts;
-    for region in regions {
-        at = push_region(alloc, tokenizer, hunks, inputs, at, region, limits)?;
-    }
-    let row = parts(alloc, inputs, at, limits)?;
-    push_different(tokenizer, hunks, inputs, at, limits, row)
-}
-
-// Appends the hunk of the last `len` bytes, unless they are none.
-#[tactic(auto, using(crate::proofs::HunkEnds::end_steps))]
-fn push_end<'a>(
-    alloc: Global,
-    tokenizer: Tokenizer,
-    hunks: &mut Vec<DiffHunk<'a>>,
-    inputs: &[&'a [u8]],
-    starts: &[usize],
     len: usize,
 ) -> Result<(), AllocError>
     requires common { IsCommonEnd tokenizer (bytes_of inputs.now) 0 len }
-    requires starts { AreLimits (bytes_of inputs.now) len starts.now }
-    requires prefix { IsPrefixDiff tokenizer (bytes_of inputs.now) hunks.old.items starts.now }
-    requires last { EndsIn DiffHunkKind.Different hunks.old.items }
-    ensures diff { OnOk result (IsDiff tokenizer (bytes_of inputs.now) hunks.new.items) }
-    ensures start { OnOk result
-        (matched_start hunks.old.items ≤ matched_start hunks.new.items) }
-    ensures end { OnOk result (len ≤ matched_end hunks.new.items) }
+    requires progress { IsProgress C.canonical tokenizer (bytes_of inputs.now)
+        progress.old.hunks.items progress.old.from.items progress.old.at.items }
+    requires gap { (progress.old.hunks.items ≡ []) ⊎ HasGap (bytes_of inputs.now)
+        progress.old.from.items progress.old.at.items }
+    requires ranges { (limits : List ℕ) → AreLimits (bytes_of inputs.now) len limits
+        → AreRanges (bytes_of inputs.now) progress.old.at.items limits }
+    ensures progress { OnOk result (IsProgress C.canonical tokenizer (bytes_of inputs.now)
+        progress.new.hunks.items progress.new.from.items progress.new.at.items) }
+    ensures at { OnOk result (AreLimits (bytes_of inputs.now) 0 progress.new.at.items) }
+    ensures from { OnOk result (slice_index progress.new.from.items 0 + len
+        ≤ slice_index progress.new.at.items 0) }
+    ensures start { OnOk result ((n : ℕ)
+        → StartsWith n progress.old.hunks.items progress.old.at.items
+        → StartsWith n progress.new.hunks.items progress.new.at.items) }
 {
-    if len == 0 {
-        return Ok(());
+    let last_starts = limits(alloc, inputs, len)?;
+    let last_ends = limits(alloc, inputs, 0)?;
+    let starts = last_starts.as_slice();
+    let ends = last_ends.as_slice();
+    for region in regions {
+        push_region(alloc, tokenizer, compare, inputs, progress, region, starts)?;
     }
-    let ends = limits(alloc, inputs, 0)?;
-    let row = parts(alloc, inputs, starts, &ends)?;
-    push_matching(tokenizer, hunks, inputs, starts, &ends, row)
+    progress.advance::<C>(alloc, tokenizer, inputs, starts, ends)?;
+    Ok(())
+}
+
+// Returns what has been found once it is known that the first `len` bytes match.
+#[tactic(auto, using(crate::proofs::HunkEnds::start_steps))]
+fn progress_from<'a>(
+    alloc: Global,
+    tokenizer: Tokenizer,
+    inputs: &[&'a [u8]],
+    len: usize,
+) -> Result<Progress<'a>, AllocError>
+    requires { IsCommonStart tokenizer (bytes_of inputs.now) len }
+    ensures hunks { IfOk result (λ progress. progress.hunks.items ≡ []) }
+    ensures from { IfOk result
+        (λ progress. AreStarts (bytes_of inputs.now) 0 progress.from.items) }
+    ensures at { IfOk result
+        (λ progress. AreStarts (bytes_of inputs.now) len progress.at.items) }
+{
+    let hunks = Vec::new(alloc);
+    let from = vec![in alloc; 0; inputs.len()]?;
+    let at = vec![in alloc; len; inputs.len()]?;
+    Ok(Progress { hunks, from, at })
 }
 
 // Returns the hunks of equal inputs.
 #[tactic(auto, using(crate::proofs::Rows::whole_steps, crate::proofs::HunkEnds::equal_steps))]
-fn equal_hunks<'a>(
+fn equal_hunks<'a, C: CompareBytes>(
     alloc: Global,
     tokenizer: Tokenizer,
     inputs: &[&'a [u8]],
 ) -> Result<Vec<DiffHunk<'a>>, AllocError>
-    requires { AreEqual (bytes_of inputs.now) }
-    ensures diff { IfOk result (λ hunks. IsDiff tokenizer (bytes_of inputs.now) hunks.items) }
+    requires { AreEqualBy C.canonical (bytes_of inputs.now) }
+    ensures diff { IfOk result
+        (λ hunks. IsDiffBy C.canonical tokenizer (bytes_of inputs.now) hunks.items) }
     ensures ends { IfOk result
         (λ hunks. MatchesEnds tokenizer (bytes_of inputs.now) hunks.items) }
     ensures matching { IfOk result (λ hunks. AllMatch hunks.items) }
@@ -372,33 +198,116 @@ fn equal_hunks<'a>(
 
 // Returns the hunks of unequal inputs.
 #[tactic(auto, using(crate::proofs::HunkEnds::whole_steps))]
-fn region_hunks<'a>(
+fn region_hunks<'a, C: CompareBytes>(
     alloc: Global,
     tokenizer: Tokenizer,
+    compare: &C,
     inputs: &[&'a [u8]],
     regions: &[MatchedRegion],
 ) -> Result<Vec<DiffHunk<'a>>, AllocError>
-    requires { ¬ (AreEqual (bytes_of inputs.now)) }
-    ensures diff { IfOk result (λ hunks. IsDiff tokenizer (bytes_of inputs.now) hunks.items) }
+    requires { 0 < length inputs.now }
+    ensures diff { IfOk result
+        (λ hunks. IsDiffBy C.canonical tokenizer (bytes_of inputs.now) hunks.items) }
     ensures ends { IfOk result
         (λ hunks. MatchesEnds tokenizer (bytes_of inputs.now) hunks.items) }
+    ensures trimmed { IfOk result (λ hunks. AreTrimmed tokenizer hunks.items) }
 {
     let start = common_start(tokenizer, inputs);
     let end = common_end(tokenizer, inputs, start);
-    let starts = vec![in alloc; start; inputs.len()]?;
-    let limits = limits(alloc, inputs, end)?;
-    let mut hunks = start_hunks(alloc, tokenizer, inputs, start, &starts)?;
+    let mut progress = progress_from(alloc, tokenizer, inputs, start)?;
     push_regions(
-        alloc, tokenizer, &mut hunks, inputs, &starts, regions, &limits,
+        alloc,
+        tokenizer,
+        compare,
+        inputs,
+        &mut progress,
+        regions,
+        end,
     )?;
-    push_end(alloc, tokenizer, &mut hunks, inputs, &limits, end)?;
+    let mut hunks = progress.hunks;
+    push_matching::<C>(
+        alloc,
+        tokenizer,
+        &mut hunks,
+        inputs,
+        &progress.from,
+        &progress.at,
+    )?;
     Ok(hunks)
 }
 
 /// Returns the hunks of the inputs whose matching ones are the tokens that all inputs start with,
-/// the regions, in order, and the tokens that all inputs end with. Ignores a region that overlaps
-/// an earlier hunk or the last one or adjoins it in all inputs, is empty, is not equal in all
-/// inputs or cuts a token. Equal inputs are one matching hunk, or none if they are empty.
+/// the regions, in order, and the tokens that all inputs end with, each as far as the tokens before
+/// and after it are equal in all inputs. Ignores a region that overlaps an earlier hunk or the last
+/// one, is empty, is not equal in all inputs or cuts a token. Inputs that are equal under the
+/// comparison are one matching hunk, or none if they are empty.
+#[tactic(auto, using(crate::proofs::HunkEnds::compared_steps))]
+pub fn compared_hunks<'a, C: CompareBytes>(
+    alloc: Global,
+    tokenizer: Tokenizer,
+    compare: &C,
+    inputs: &[&'a [u8]],
+    regions: &[MatchedRegion],
+) -> Result<Vec<DiffHunk<'a>>, AllocError>
+    ensures diff { IfOk result
+        (λ hunks. IsDiffBy C.canonical tokenizer (bytes_of inputs.now) hunks.items) }
+    ensures ends { IfOk result
+        (λ hunks. MatchesEnds tokenizer (bytes_of inputs.now) hunks.items) }
+    ensures trimmed { IfOk result (λ hunks. AreTrimmed tokenizer hunks.items) }
+    ensures identity { IfOk result
+        (λ hunks. AreEqualBy C.canonical (bytes_of inputs.now) → AllMatch hunks.items) }
+{
+    if are_equal(compare, inputs) {
+        let hunks = equal_hunks::<C>(alloc, tokenizer, inputs)?;
+        return Ok(hunks);
+    }
+    let hunks = region_hunks(alloc, tokenizer, compare, inputs, regions)?;
+    Ok(hunks)
+}
+
+// Returns the inputs as one hunk.
+fn whole_hunk<'a>(
+    alloc: Global,
+    kind: DiffHunkKind,
+    inputs: &[&'a [u8]],
+) -> Result<Vec<DiffHunk<'a>>, AllocError>
+    requires nonempty { IsNonempty (bytes_of inputs.now) }
+    requires equal { kind ≡ DiffHunkKind.Matching → AreEqual (bytes_of inputs.now) }
+    ensures diff { IfOk result (λ hunks. (tokenizer : Tokenizer)
+        → IsDiff tokenizer (bytes_of inputs.now) hunks.items) }
+    ensures single { IfOk result (λ hunks. length hunks.items ≡ 1) }
+    ensures kind { IfOk result (λ hunks. kind ≡ DiffHunkKind.Matching → AllMatch hunks.items) }
+{
+    let row = Vec::from_slice(alloc, inputs)?;
+    let mut hunks = Vec::new(alloc);
+    hunks.push(DiffHunk {
+        kind,
+        contents: row,
+    })?;
+    Ok(hunks)
+}
+
+/// Returns the inputs as one hunk, which matches if they are equal, or none if they are empty.
+#[tactic(auto, using(crate::proofs::Rows::whole_steps))]
+pub fn single_hunk<'a>(alloc: Global, inputs: &[&'a [u8]]) -> Result<Vec<DiffHunk<'a>>, AllocError>
+    ensures diff { IfOk result (λ hunks. (tokenizer : Tokenizer)
+        → IsDiff tokenizer (bytes_of inputs.now) hunks.items) }
+    ensures single { IfOk result (λ hunks. length hunks.items ≤ 1) }
+    ensures identity { IfOk result
+        (λ hunks. AreEqual (bytes_of inputs.now) → AllMatch hunks.items) }
+{
+    if is_empty(inputs) {
+        return Ok(Vec::new(alloc));
+    }
+    if are_equal(&CompareBytesExactly, inputs) {
+        let hunks = whole_hunk(alloc, DiffHunkKind::Matching, inputs)?;
+        return Ok(hunks);
+    }
+    let hunks = whole_hunk(alloc, DiffHunkKind::Different, inputs)?;
+    Ok(hunks)
+}
+
+/// Returns the hunks of the inputs under `CompareBytesExactly`. See `compared_hunks`.
 pub fn hunks_of_regions<'a>(
     alloc: Global,
     tokenizer: Tokenizer,
@@ -408,11 +317,9 @@ pub fn hunks_of_regions<'a>(
     ensures diff { IfOk result (λ hunks. IsDiff tokenizer (bytes_of inputs.now) hunks.items) }
     ensures ends { IfOk result
         (λ hunks. MatchesEnds tokenizer (bytes_of inputs.now) hunks.items) }
+    ensures trimmed { IfOk result (λ hunks. AreTrimmed tokenizer hunks.items) }
     ensures identity { IfOk result
         (λ hunks. AreEqual (bytes_of inputs.now) → AllMatch hunks.items) }
 {
-    if are_equal(inputs) {
-        return equal_hunks(alloc, tokenizer, inputs);
-    }
-    region_hunks(alloc, tokenizer, inputs, regions)
+    compared_hunks(alloc, tokenizer, &CompareBytesExactly, inputs, regions)
 }

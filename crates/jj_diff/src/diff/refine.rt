@@ -1,6 +1,7 @@
 //! Refinement of regions: between regions of coarse tokens, regions of finer ones.
-use super::hunks::MatchedRegion;
-use super::regions::find_regions;
+use super::compare::{CompareBytes, CompareBytesExactly};
+use super::hunks::{DiffHunk, DiffHunkKind, MatchedRegion};
+use super::regions::find_compared_regions;
 use super::search::at;
 use super::tokens::Tokenizer;
 use std::alloc::{AllocError, Global};
@@ -55,9 +56,10 @@ fn push_joined(
 }
 
 // Appends the regions between `starts` and `ends`.
-fn push_between(
+fn push_between<C: CompareBytes>(
     alloc: Global,
     tokenizer: Tokenizer,
+    compare: &C,
     inputs: &[&[u8]],
     base: usize,
     starts: &[usize],
@@ -65,13 +67,10 @@ fn push_between(
     regions: &mut Vec<MatchedRegion>,
 ) -> Result<(), AllocError> {
     let mut parts: Vec<&[u8]> = Vec::with_capacity(alloc, inputs.len())?;
-    let mut token_ends = Vec::with_capacity(alloc, inputs.len())?;
     for index in 0..inputs.len() {
-        let part = part(inputs[index], at(starts, index), at(ends, index));
-        parts.push(part)?;
-        token_ends.push(tokenizer.find_ends(alloc, part)?)?;
+        parts.push(part(inputs[index], at(starts, index), at(ends, index)))?;
     }
-    let found = find_regions(alloc, &parts, &token_ends, base)?;
+    let found = find_compared_regions(alloc, tokenizer, compare, &parts, base)?;
     for region in &found {
         let first = moved(alloc, &region.starts, starts)?;
         let last = moved(alloc, &region.ends, starts)?;
@@ -80,11 +79,12 @@ fn push_between(
     Ok(())
 }
 
-/// Returns `regions` and, between them, regions of tokens of `tokenizer`, in order. Adjacent ones
-/// are joined. Input `base` is compared with each other one.
-pub fn refine_regions(
+/// Returns `regions` and, between them, regions of tokens of `tokenizer` that are equal under the
+/// comparison, in order. Adjacent ones are joined. Input `base` is compared with each other one.
+pub fn refine_compared_regions<C: CompareBytes>(
     alloc: Global,
     tokenizer: Tokenizer,
+    compare: &C,
     inputs: &[&[u8]],
     base: usize,
     regions: &[MatchedRegion],
@@ -96,6 +96,7 @@ pub fn refine_regions(
         push_between(
             alloc,
             tokenizer,
+            compare,
             inputs,
             base,
             starts,
@@ -111,6 +112,65 @@ pub fn refine_regions(
     for input in inputs {
         ends.push(input.len())?;
     }
-    push_between(alloc, tokenizer, inputs, base, starts, &ends, &mut refined)?;
+    push_between(
+        alloc,
+        tokenizer,
+        compare,
+        inputs,
+        base,
+        starts,
+        &ends,
+        &mut refined,
+    )?;
     Ok(refined)
+}
+
+/// Returns `regions` and, between them, regions of equal tokens. See `refine_compared_regions`.
+pub fn refine_regions(
+    alloc: Global,
+    tokenizer: Tokenizer,
+    inputs: &[&[u8]],
+    base: usize,
+    regions: &[MatchedRegion],
+) -> Result<Vec<MatchedRegion>, AllocError> {
+    refine_compared_regions(
+        alloc,
+        tokenizer,
+        &CompareBytesExactly,
+        inputs,
+        base,
+        regions,
+    )
+}
+
+// Returns the offsets after a hunk that begins at `starts`.
+fn ends_after(
+    alloc: Global,
+    starts: &[usize],
+    contents: &[&[u8]],
+) -> Result<Vec<usize>, AllocError> {
+    let mut ends = Vec::with_capacity(alloc, contents.len())?;
+    for index in 0..contents.len() {
+        ends.push(at(starts, index).saturating_add(contents[index].len()))?;
+    }
+    Ok(ends)
+}
+
+/// Returns where the hunks that match are in each of `count` inputs.
+pub fn matched_regions(
+    alloc: Global,
+    count: usize,
+    hunks: &[DiffHunk],
+) -> Result<Vec<MatchedRegion>, AllocError> {
+    let mut regions = Vec::new(alloc);
+    let mut starts = vec![in alloc; 0; count]?;
+    for hunk in hunks {
+        let ends = ends_after(alloc, &starts, &hunk.contents)?;
+        if hunk.kind == DiffHunkKind::Matching {
+            let last = Vec::from_slice(alloc, &ends)?;
+            regions.push(MatchedRegion { starts, ends: last })?;
+        }
+        starts = ends;
+    }
+    Ok(regions)
 }

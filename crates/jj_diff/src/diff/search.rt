@@ -2,7 +2,6 @@
 //! sides, a longest increasing subsequence of them (patience), and the ranges between by a stack.
 //! Its result is a proposal that `hunks` checks, so indices out of range are ignored.
 use std::alloc::{AllocError, Global};
-use std::collections::BTreeMap;
 
 // The index of a token that has no counterpart.
 pub(super) const NONE: usize = usize::MAX;
@@ -39,34 +38,6 @@ fn increment(values: &mut [usize], index: usize) {
     if index < values.len() {
         values[index] = values[index].saturating_add(1);
     }
-}
-
-// Numbers the tokens of `text` that end at `ends`; equal tokens have the same number. `numbers`
-// contains the tokens that were seen before.
-pub(super) fn number_tokens<'a>(
-    alloc: Global,
-    numbers: &mut BTreeMap<&'a [u8], usize>,
-    text: &'a [u8],
-    ends: &[usize],
-) -> Result<Vec<usize>, AllocError> {
-    let mut result = Vec::with_capacity(alloc, ends.len())?;
-    let mut start = 0;
-    for end in ends {
-        if start <= *end && *end <= text.len() {
-            let token = &text[start..*end];
-            let next = numbers.len();
-            let number = match numbers.get(&token) {
-                Some(number) => *number,
-                None => {
-                    numbers.insert(token, next)?;
-                    next
-                }
-            };
-            result.push(number)?;
-            start = *end;
-        }
-    }
-    Ok(result)
 }
 
 // Tables that are kept between spans.

@@ -1,23 +1,48 @@
-use Rattle.std.proofs.Common.{◌≤◌, arith, rules, sym, subst}
+use Rattle.std.proofs.Common.{◌<◌, ◌≤◌, ◌+◌, length, get_or, arith, sym, subst, inl}
 use Rattle.jj_diff.specs.Inputs.{bytes_of}
-use Rattle.jj_diff.specs.Hunks.{AreStarts, AreLimits, matched_start}
+use Rattle.jj_diff.specs.Hunks.{AreLimits, StartsWith}
 use Rattle.jj_diff.proofs.Rows.{length-bytes_of}
-use Rattle.jj_diff.proofs.HunkEnds.{starts_of, before_of, matches_ends}
+use Rattle.jj_diff.proofs.HunkEnds.{common_end_zero, progress_start, ranges_between_ends, start_at, whole_at, matches_ends}
 use Rattle.jj_diff.proofs.diff.hunks.region_hunks.Goals as goal
 
-pub push_regions-requires-clause-before : goal.push_regions-requires-clause-before
-push_regions-requires-clause-before c =
-    let at : AreStarts (bytes_of c.args.inputs.now) c.common_start-start.result c.deref-2.result.now =
-    subst (AreStarts (bytes_of c.args.inputs.now) c.common_start-start.result) (sym c.deref-2.ensures.value)
-    (starts_of (bytes_of c.args.inputs.now) c.common_start-start.result _ c.in_ok-starts.starts.items (sym (length-bytes_of c.args.inputs.now)) (c.in_ok-starts.ensures.items_if_clones_equal (search rules))) in
-    let from : AreLimits (bytes_of c.args.inputs.now) c.common_end-end.result c.deref-3.result.now =
-    subst (AreLimits (bytes_of c.args.inputs.now) c.common_end-end.result) (sym c.deref-3.ensures.value) c.in_ok-limits.ensures in
-    before_of c.args.tokenizer (bytes_of c.args.inputs.now) c.common_start-start.result c.common_end-end.result c.deref-2.result.now c.deref-3.result.now
-    c.requires c.common_start-start.ensures.common c.common_end-end.ensures.common at from
+pub push_regions-requires-clause-common : goal.push_regions-requires-clause-common
+push_regions-requires-clause-common g c =
+    common_end_zero c.args.tokenizer (bytes_of c.args.inputs.now) c.common_start-start.result c.common_end-end.result c.common_end-end.ensures.common
+
+pub push_regions-requires-clause-progress : goal.push_regions-requires-clause-progress
+push_regions-requires-clause-progress g c =
+    progress_start g.C.CompareBytes.canonical c.args.tokenizer (bytes_of c.args.inputs.now) c.common_start-start.result c.in_ok-progress.progress.hunks.items c.in_ok-progress.progress.from.items c.in_ok-progress.progress.at.items
+    c.common_start-start.ensures.common c.in_ok-progress.ensures.from c.in_ok-progress.ensures.at c.in_ok-progress.ensures.hunks
+
+pub push_regions-requires-clause-gap : goal.push_regions-requires-clause-gap
+push_regions-requires-clause-gap g c = inl c.in_ok-progress.ensures.hunks
+
+pub push_regions-requires-clause-ranges : goal.push_regions-requires-clause-ranges
+push_regions-requires-clause-ranges g c =
+    ranges_between_ends g.C.CompareBytes.canonical c.args.tokenizer (bytes_of c.args.inputs.now) c.common_start-start.result c.common_end-end.result c.in_ok-progress.progress.at.items c.in_ok-progress.ensures.at c.common_end-end.ensures.common
+
+pub push_matching-requires-clause-prefix : goal.push_matching-requires-clause-prefix
+push_matching-requires-clause-prefix g c = rw c.deref.ensures.value c.in_ok-push_regions.ensures.progress.prefix
+
+pub push_matching-requires-clause-pending : goal.push_matching-requires-clause-pending
+push_matching-requires-clause-pending g c =
+    rw (c.deref.ensures.value, c.deref-2.ensures.value) c.in_ok-push_regions.ensures.progress.pending
+
+pub returns-clause-diff : goal.returns-clause-diff
+returns-clause-diff g c =
+    let to : AreLimits (bytes_of c.args.inputs.now) 0 c.deref-2.result.now =
+    subst (AreLimits (bytes_of c.args.inputs.now) 0) (sym c.deref-2.ensures.value) c.in_ok-push_regions.ensures.at in
+    whole_at g.C.CompareBytes.canonical c.args.tokenizer (bytes_of c.args.inputs.now) c.push_matching.new.hunks.items c.deref-2.result.now to c.in_ok-push_matching.ensures.prefix
 
 pub returns-clause-ends : goal.returns-clause-ends
-returns-clause-ends c =
-    let start : c.common_start-start.result ≤ matched_start c.push_end.new.hunks.items =
-    omega (arith, c.in_ok-hunks.ensures.start, c.in_ok-push_regions.ensures.start, c.in_ok-push_end.ensures.start) in
-    matches_ends c.args.tokenizer (bytes_of c.args.inputs.now) c.push_end.new.hunks.items c.common_start-start.result c.common_end-end.result
-    start c.common_start-start.ensures.longest c.in_ok-push_end.ensures.end c.common_end-end.ensures.longest
+returns-clause-ends g c =
+    let some : 0 < length (bytes_of c.args.inputs.now) = omega (arith, c.requires, length-bytes_of c.args.inputs.now) in
+    let first : StartsWith c.common_start-start.result c.push_regions.new.progress.hunks.items c.push_regions.new.progress.at.items =
+    c.in_ok-push_regions.ensures.start c.common_start-start.result (
+    start_at g.C.CompareBytes.canonical c.args.tokenizer (bytes_of c.args.inputs.now) c.common_start-start.result c.in_ok-progress.progress.hunks.items c.in_ok-progress.progress.at.items some c.in_ok-progress.ensures.at c.in_ok-progress.ensures.hunks) in
+    let start : StartsWith c.common_start-start.result c.push_regions.new.progress.hunks.items c.deref-2.result.now = rw c.deref-2.ensures.value first in
+    let end : get_or c.deref.result.now 0 0 + c.common_end-end.result ≤ get_or c.deref-2.result.now 0 0 =
+    rw (c.deref.ensures.value, c.deref-2.ensures.value) c.in_ok-push_regions.ensures.from in
+    matches_ends c.args.tokenizer (bytes_of c.args.inputs.now) c.push_matching.new.hunks.items c.common_start-start.result c.common_end-end.result
+    (c.in_ok-push_matching.ensures.start c.common_start-start.result start) c.common_start-start.ensures.longest
+    (c.in_ok-push_matching.ensures.end c.common_end-end.result end) c.common_end-end.ensures.longest

@@ -1,9 +1,0 @@
-use Rattle.std.proofs.Common.{ℕ, ◌<◌, ◌≤◌, [], length, get_or}
-use Rattle.jj_diff.specs.Inputs.{bytes_of}
-use Rattle.jj_diff.proofs.diff.hunks.are_ranges.Given as goal
-
-abbrev pub invariant-loop-index : goal.invariant-loop-index
-invariant-loop-index l = record {
-  ordered : (i : ℕ) → i < l.index → get_or l.starts i 0 ≤ get_or l.ends i 0;
-  within : (i : ℕ) → i < l.index → get_or l.ends i 0 ≤ length (get_or (bytes_of l.inputs) i []);
-}

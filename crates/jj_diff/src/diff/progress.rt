@@ -1,0 +1,180 @@
+//! Appends hunks from left to right: what matches waits until it is known how far it reaches.
+ghost use Rattle.std.specs.Prelude.{◌≡◌, ◌⊎◌, ℕ, ◌+◌, ◌<◌, ◌≤◌, List, [], length, IfOk, OnOk, slice_index};
+ghost use Rattle.jj_diff.specs.Inputs.{bytes_of, AreRanges, AreParts, IsNonempty};
+ghost use Rattle.jj_diff.specs.Hunks.{IsPrefixDiff, EndsIn, AreCuts, HasGap, IsMatch, IsProgress, AreTrimmed, IsTrimmed, StartsWith, matched_start, matched_end};
+
+use super::compare::CompareBytes;
+use super::gaps::{Gap, trim_gap};
+use super::hunks::{DiffHunk, DiffHunkKind};
+use super::rows::{is_empty, parts};
+use super::tokens::Tokenizer;
+use std::alloc::{AllocError, Global};
+
+// Hunks up to the offsets `from`, after which the inputs match up to the offsets `at`.
+#[derive(Drop)]
+pub(super) struct Progress<'a> {
+    pub(super) hunks: Vec<DiffHunk<'a>>,
+    pub(super) from: Vec<usize>,
+    pub(super) at: Vec<usize>,
+}
+
+// Appends a hunk that differs.
+#[tactic(auto, using(crate::proofs::Rows::prefix_steps, crate::proofs::Progress::push_steps))]
+fn push_different<'a, C: CompareBytes>(
+    tokenizer: Tokenizer,
+    hunks: &mut Vec<DiffHunk<'a>>,
+    inputs: &[&'a [u8]],
+    starts: &[usize],
+    ends: &[usize],
+    row: Vec<&'a [u8]>,
+) -> Result<(), AllocError>
+    requires ranges { AreRanges (bytes_of inputs.now) starts.now ends.now }
+    requires cuts { AreCuts tokenizer (bytes_of inputs.now) ends.now }
+    requires prefix { IsPrefixDiff C.canonical tokenizer (bytes_of inputs.now) hunks.old.items
+        starts.now }
+    requires all_trimmed { AreTrimmed tokenizer hunks.old.items }
+    requires last { EndsIn DiffHunkKind.Matching hunks.old.items }
+    requires row { AreParts (bytes_of inputs.now) starts.now ends.now (bytes_of row.items) }
+    requires nonempty { IsNonempty (bytes_of row.items) }
+    requires trimmed { IsTrimmed tokenizer (bytes_of row.items) }
+    ensures prefix { OnOk result (IsPrefixDiff C.canonical tokenizer (bytes_of inputs.now)
+        hunks.new.items ends.now) }
+    ensures trimmed { OnOk result (AreTrimmed tokenizer hunks.new.items) }
+    ensures last { OnOk result (EndsIn DiffHunkKind.Different hunks.new.items) }
+    ensures start { OnOk result ((n : ℕ) → (at : List ℕ) → n ≤ matched_start hunks.old.items
+        → StartsWith n hunks.new.items at) }
+{
+    hunks.push(DiffHunk {
+        kind: DiffHunkKind::Different,
+        contents: row,
+    })?;
+    Ok(())
+}
+
+// Appends a matching hunk, unless it is empty in all inputs.
+#[tactic(auto, using(crate::proofs::Rows::prefix_steps, crate::proofs::Progress::push_steps))]
+pub(super) fn push_matching<'a, C: CompareBytes>(
+    alloc: Global,
+    tokenizer: Tokenizer,
+    hunks: &mut Vec<DiffHunk<'a>>,
+    inputs: &[&'a [u8]],
+    starts: &[usize],
+    ends: &[usize],
+) -> Result<(), AllocError>
+    requires some { 0 < length inputs.now }
+    requires prefix { IsPrefixDiff C.canonical tokenizer (bytes_of inputs.now) hunks.old.items
+        starts.now }
+    requires trimmed { AreTrimmed tokenizer hunks.old.items }
+    requires last { EndsIn DiffHunkKind.Different hunks.old.items }
+    requires pending { IsMatch C.canonical tokenizer (bytes_of inputs.now) starts.now ends.now }
+    ensures prefix { OnOk result (IsPrefixDiff C.canonical tokenizer (bytes_of inputs.now)
+        hunks.new.items ends.now) }
+    ensures trimmed { OnOk result (AreTrimmed tokenizer hunks.new.items) }
+    ensures last { OnOk result
+        ((hunks.old.items ≡ []) ⊎ HasGap (bytes_of inputs.now) starts.now ends.now
+        → EndsIn DiffHunkKind.Matching hunks.new.items) }
+    ensures end { OnOk result
+        ((n : ℕ) → slice_index starts.now 0 + n ≤ slice_index ends.now 0
+        → n ≤ matched_end hunks.new.items) }
+    ensures start { OnOk result ((n : ℕ) → StartsWith n hunks.old.items ends.now
+        → n ≤ matched_start hunks.new.items) }
+{
+    let row = parts(alloc, inputs, starts, ends)?;
+    if is_empty(&row) {
+        return Ok(());
+    }
+    hunks.push(DiffHunk {
+        kind: DiffHunkKind::Matching,
+        contents: row,
+    })?;
+    Ok(())
+}
+
+// Appends what matches after the hunks, and then the gap as a hunk that differs.
+#[tactic(auto)]
+fn push_gap<'a, C: CompareBytes>(
+    alloc: Global,
+    tokenizer: Tokenizer,
+    hunks: &mut Vec<DiffHunk<'a>>,
+    inputs: &[&'a [u8]],
+    from: &[usize],
+    gap: &Gap,
+    row: Vec<&'a [u8]>,
+) -> Result<(), AllocError>
+    requires some { 0 < length inputs.now }
+    requires prefix { IsPrefixDiff C.canonical tokenizer (bytes_of inputs.now) hunks.old.items
+        from.now }
+    requires all_trimmed { AreTrimmed tokenizer hunks.old.items }
+    requires last { EndsIn DiffHunkKind.Different hunks.old.items }
+    requires pending { IsMatch C.canonical tokenizer (bytes_of inputs.now) from.now
+        gap.now.starts.items }
+    requires gap { (hunks.old.items ≡ []) ⊎ HasGap (bytes_of inputs.now) from.now
+        gap.now.starts.items }
+    requires ranges { AreRanges (bytes_of inputs.now) gap.now.starts.items gap.now.ends.items }
+    requires cuts { AreCuts tokenizer (bytes_of inputs.now) gap.now.ends.items }
+    requires row { AreParts (bytes_of inputs.now) gap.now.starts.items gap.now.ends.items
+        (bytes_of row.items) }
+    requires nonempty { IsNonempty (bytes_of row.items) }
+    requires trimmed { IsTrimmed tokenizer (bytes_of row.items) }
+    ensures prefix { OnOk result (IsPrefixDiff C.canonical tokenizer (bytes_of inputs.now)
+        hunks.new.items gap.now.ends.items) }
+    ensures trimmed { OnOk result (AreTrimmed tokenizer hunks.new.items) }
+    ensures last { OnOk result (EndsIn DiffHunkKind.Different hunks.new.items) }
+    ensures start { OnOk result ((n : ℕ) → (at : List ℕ)
+        → StartsWith n hunks.old.items gap.now.starts.items → StartsWith n hunks.new.items at) }
+{
+    push_matching::<C>(alloc, tokenizer, hunks, inputs, from, &gap.starts)?;
+    push_different::<C>(tokenizer, hunks, inputs, &gap.starts, &gap.ends, row)?;
+    Ok(())
+}
+
+impl<'a> Progress<'a> {
+    // Moves on to what matches from `starts` to `ends`. What is before it, without the tokens that
+    // all inputs start or end with there, becomes a hunk that differs.
+    #[tactic(auto)]
+    pub(super) fn advance<C: CompareBytes>(
+        &mut self,
+        alloc: Global,
+        tokenizer: Tokenizer,
+        inputs: &[&'a [u8]],
+        starts: &[usize],
+        ends: &[usize],
+    ) -> Result<(), AllocError>
+        requires some { 0 < length inputs.now }
+        requires progress { IsProgress C.canonical tokenizer (bytes_of inputs.now)
+            self.old.hunks.items self.old.from.items self.old.at.items }
+        requires gap { (self.old.hunks.items ≡ []) ⊎ HasGap (bytes_of inputs.now)
+            self.old.from.items self.old.at.items }
+        requires ranges { AreRanges (bytes_of inputs.now) self.old.at.items starts.now }
+        requires cuts { AreCuts tokenizer (bytes_of inputs.now) starts.now }
+        requires next { IsMatch C.canonical tokenizer (bytes_of inputs.now) starts.now ends.now }
+        ensures progress { OnOk result (IsProgress C.canonical tokenizer (bytes_of inputs.now)
+            self.new.hunks.items self.new.from.items self.new.at.items) }
+        ensures at { OnOk result (self.new.at.items ≡ ends.now) }
+        ensures from { OnOk result
+            (AreRanges (bytes_of inputs.now) self.new.from.items starts.now) }
+        ensures start { OnOk result ((n : ℕ)
+            → StartsWith n self.old.hunks.items self.old.at.items
+            → StartsWith n self.new.hunks.items self.new.at.items) }
+    {
+        let next = Vec::from_slice(alloc, ends)?;
+        let gap = trim_gap(alloc, tokenizer, inputs, &self.at, starts)?;
+        let row = parts(alloc, inputs, &gap.starts, &gap.ends)?;
+        if is_empty(&row) {
+            self.at = next;
+            return Ok(());
+        }
+        push_gap::<C>(
+            alloc,
+            tokenizer,
+            &mut self.hunks,
+            inputs,
+            &self.from,
+            &gap,
+            row,
+        )?;
+        self.from = gap.ends;
+        self.at = next;
+        Ok(())
+    }
+}
