@@ -1,13 +1,13 @@
 -- Common lines of two byte strings as common starts and ends of the inputs of a comparison.
-use Rattle.std.proofs.Common.{◌≡◌, ◌≢◌, ℕ, suc, zero, ◌+◌, ◌-◌, ◌<◌, ◌≤◌, List, [], ◌∷◌, ◌++◌, length, take, drop, get_or, refl, ap, sym, ◌∙◌, subst, arith, lit<, inl, inr, ◌⊎◌, length-append, Bool, true, ◌==◌, ◌||◌, eq-eqb}
+use Rattle.std.proofs.Common.{◌≡◌, ◌≢◌, ℕ, suc, zero, ◌+◌, ◌-◌, ◌<◌, ◌≤◌, List, [], ◌∷◌, ◌++◌, length, take, drop, get_or, refl, ap, sym, ◌∙◌, subst, arith, lit<, inl, inr, ◌⊎◌, length-append, Bool, true, ◌==◌, ◌||◌, eq-eqb, All}
 use Rattle.std.proofs.lemmas.Bool.{cases_lt}
 use Rattle.std.proofs.lemmas.Grind.{common_steps, elements}
 use Rattle.jj_diff.specs.declared.diff.hunks.DiffHunk.{DiffHunk}
 use Rattle.jj_diff.specs.declared.diff.tokens.Tokenizer.TheVariants.{Lines}
 use Rattle.jj_diff.specs.Tokens.{IsCut, is_line_end}
 use Rattle.jj_diff.specs.Ends.{IsCommonStart, IsCommonEnd, suffix}
-use Rattle.jj_diff.specs.Hunks.{matched_start, matched_end, MatchesEnds}
-use Rattle.contracts_diffs.specs.Lines.{EndsInLine}
+use Rattle.jj_diff.specs.Hunks.{matched_start, matched_end, MatchesEnds, AreTrimmed}
+use Rattle.contracts_diffs.specs.Lines.{EndsInLine, StartsApart, EndsApart}
 
 last_of : (xs ys : List ℕ) (n : ℕ) → n ≡ length xs → 0 < n → get_or xs (length xs - 1) 0 ≡ 10 → get_or (xs ++ ys) (n - 1) 0 ≡ 10
 last_of xs ys n e lt last = grind (arith, common_steps, elements)
@@ -37,9 +37,10 @@ take-whole xs ys = grind (arith, common_steps)
 drop-whole : (xs ys : List ℕ) (n : ℕ) → n ≡ length xs → drop n (xs ++ ys) ≡ ys
 drop-whole xs ys n e = grind (arith, common_steps)
 
-pub start_matches : (l r : List ℕ) (hs : List DiffHunk) → MatchesEnds Lines (l ∷ r ∷ []) hs
-    → (lines xs ys : List ℕ) → EndsInLine lines → l ≡ lines ++ xs → r ≡ lines ++ ys → length lines ≤ matched_start hs
-start_matches l r hs matched lines xs ys ends el er = matched.start (length lines) (record {
+-- equal lines at the start of both
+common_start : (l r lines xs ys : List ℕ) → EndsInLine lines → l ≡ lines ++ xs → r ≡ lines ++ ys
+    → IsCommonStart Lines (l ∷ r ∷ []) (length lines)
+common_start l r lines xs ys ends el er = record {
   some = lit< tt;
   within = both (λ i. length lines ≤ length (get_or (l ∷ r ∷ []) i [])) (omega (arith, ap length el, length-append lines xs)) (omega (arith, ap length er, length-append lines ys));
   equal = both (λ i. take (length lines) (get_or (l ∷ r ∷ []) i []) ≡ take (length lines) l) refl
@@ -47,7 +48,11 @@ start_matches l r hs matched lines xs ys ends el er = matched.start (length line
   cuts = both (λ i. IsCut Lines (get_or (l ∷ r ∷ []) i []) (length lines))
       (subst (λ zs. IsCut Lines zs (length lines)) (sym el) (cut_after lines xs ends))
       (subst (λ zs. IsCut Lines zs (length lines)) (sym er) (cut_after lines ys ends));
-})
+}
+
+pub start_matches : (l r : List ℕ) (hs : List DiffHunk) → MatchesEnds Lines (l ∷ r ∷ []) hs
+    → (lines xs ys : List ℕ) → EndsInLine lines → l ≡ lines ++ xs → r ≡ lines ++ ys → length lines ≤ matched_start hs
+start_matches l r hs matched lines xs ys ends el er = matched.start (length lines) (common_start l r lines xs ys ends el er)
 
 suffix-whole : (l xs lines : List ℕ) → l ≡ xs ++ lines → suffix (length lines) l ≡ lines
 suffix-whole l xs lines e =
@@ -59,17 +64,40 @@ cut_before l xs lines ends e =
     let n : length xs ≡ length l - length lines = omega (arith, ap length e, length-append xs lines) in
     subst (IsCut Lines l) n (subst (λ zs. IsCut Lines zs (length xs)) (sym e) (cut_after xs lines ends))
 
-pub end_matches : (l r : List ℕ) (hs : List DiffHunk) → MatchesEnds Lines (l ∷ r ∷ []) hs
-    → (xs ys lines : List ℕ) → EndsInLine xs → EndsInLine ys → l ≡ xs ++ lines → r ≡ ys ++ lines
-    → matched_start hs ≤ length xs → matched_start hs ≤ length ys → length lines ≤ matched_end hs
-end_matches l r hs matched xs ys lines ends_xs ends_ys el er lx ly = matched.end (length lines) (record {
+-- equal lines at the end of both, after the first `start` bytes
+common_end : (l r : List ℕ) (start : ℕ) (xs ys lines : List ℕ) → EndsInLine xs → EndsInLine ys → l ≡ xs ++ lines → r ≡ ys ++ lines
+    → start ≤ length xs → start ≤ length ys → IsCommonEnd Lines (l ∷ r ∷ []) start (length lines)
+common_end l r start xs ys lines ends_xs ends_ys el er lx ly = record {
   some = lit< tt;
-  within = both (λ i. matched_start hs + length lines ≤ length (get_or (l ∷ r ∷ []) i []))
+  within = both (λ i. start + length lines ≤ length (get_or (l ∷ r ∷ []) i []))
       (omega (arith, ap length el, length-append xs lines)) (omega (arith, ap length er, length-append ys lines));
   equal = both (λ i. suffix (length lines) (get_or (l ∷ r ∷ []) i []) ≡ suffix (length lines) l) refl
       (suffix-whole r ys lines er ∙ sym (suffix-whole l xs lines el));
   cuts = both (λ i. IsCut Lines (get_or (l ∷ r ∷ []) i []) (length (get_or (l ∷ r ∷ []) i []) - length lines))
       (cut_before l xs lines ends_xs el) (cut_before r ys lines ends_ys er);
-})
+}
+
+pub end_matches : (l r : List ℕ) (hs : List DiffHunk) → MatchesEnds Lines (l ∷ r ∷ []) hs
+    → (xs ys lines : List ℕ) → EndsInLine xs → EndsInLine ys → l ≡ xs ++ lines → r ≡ ys ++ lines
+    → matched_start hs ≤ length xs → matched_start hs ≤ length ys → length lines ≤ matched_end hs
+end_matches l r hs matched xs ys lines ends_xs ends_ys el er lx ly =
+    matched.end (length lines) (common_end l r (matched_start hs) xs ys lines ends_xs ends_ys el er lx ly)
+
+no_line : (line : List ℕ) → length line ≡ 0 → line ≡ []
+no_line [] e = refl
+no_line (b ∷ bs) e = absurd (omega arith)
+
+pub starts_apart : (hs : List DiffHunk) → AreTrimmed Lines hs → All StartsApart hs
+starts_apart hs trimmed k d lt = λ kind line xs ys ends e. no_line line (
+    (trimmed k d lt kind).start (length line)
+    (subst (λ row. IsCommonStart Lines row (length line)) (sym e) (common_start (line ++ xs) (line ++ ys) line xs ys ends refl refl)))
+
+pub ends_apart : (hs : List DiffHunk) → AreTrimmed Lines hs → All EndsApart hs
+ends_apart hs trimmed k d lt = λ kind xs ys line ends_xs ends_ys e. no_line line (
+    (trimmed k d lt kind).end (length line)
+    (subst (λ row. IsCommonEnd Lines row 0 (length line)) (sym e)
+    (common_end (xs ++ line) (ys ++ line) 0 xs ys line ends_xs ends_ys refl refl (omega arith) (omega arith))))
+
+pub ruleset apart_steps = (starts_apart, ends_apart)
 
 pub ruleset ends_steps = (start_matches, end_matches)

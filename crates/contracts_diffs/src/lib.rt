@@ -3,4 +3,5 @@
 //! bodies.
 #![tactic(auto)]
 
+pub mod changes;
 pub mod files;
