@@ -5,3 +5,5 @@ pub mod Unquoting
 pub mod Tails
 pub mod Steps
 pub mod Appended
+pub mod Again
+pub mod AgainBlobs

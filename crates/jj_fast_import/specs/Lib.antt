@@ -7,3 +7,4 @@ pub mod Changes
 pub mod Commands
 pub mod Texts
 pub mod Streams
+pub mod Printable
