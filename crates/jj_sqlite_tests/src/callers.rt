@@ -1,5 +1,6 @@
 //! Proved callers: a commit that is read from a database by a later process.
-ghost use Rattle.std.specs.Prelude.{◌≡◌, ◌++◌, [], ◌∷◌, IsTrue, List, All, Contains, IfOk, IfErr, OnOk};
+ghost use Rattle.std.specs.Prelude.{◌≡◌, ◌++◌, [], ◌∷◌, ℕ, IsTrue, List, All, Contains, take};
+ghost use Rattle.std.specs.Prelude.{IfOk, IfErr, OnOk};
 ghost use Rattle.sqlite.specs.Files.{file_state, over_files};
 ghost use Rattle.sqlite.specs.Held.{state};
 ghost use Rattle.sqlite.specs.State.{HasCleanDisk};
@@ -13,6 +14,8 @@ ghost use Rattle.jj_sqlite.specs.Inserts.{ContainsEntries, StoresEntries, WasNew
 ghost use Rattle.jj_sqlite.specs.Rows.{HasDigest};
 ghost use Rattle.jj_sqlite.specs.Faults.{HasFault};
 ghost use Rattle.jj_sqlite.specs.Closing.{CrashContains, FilesContain, IsBackup};
+ghost use Rattle.jj_sqlite.specs.Tables.{HasOnlyRowsOf};
+ghost use Rattle.jj_replay.specs.Replays.{IsReplay};
 
 use jj_backend::backend::{Backend, BackendResult, Commit, CommitId, NoSigner};
 use jj_mirror::mirrored::Mirrored;
@@ -176,4 +179,17 @@ pub fn check_objects<S: Alter>(
         }
         Err((error, conn)) => (Err(error), conn),
     }
+}
+
+/// Opens a store over a database that may have lost rows of its log. If that succeeds, the backend
+/// has the objects of the first entries, and none of them is skipped.
+pub fn open_damaged<S: Alter>(
+    alloc: Global,
+    conn: Connection<S>,
+) -> Result<Mirrored<SqliteLog<S>>, (OpenError, Connection<S>)>
+    ensures { IfOk result (λ store. HasCleanDisk (state S.Store store.log.conn)
+        → (entries : List LogEntryValue) → HasOnlyRowsOf (state S.Store conn) entries
+        → (count : ℕ) × IsReplay (take count entries) store.backend) }
+{
+    open_store(alloc, conn)
 }
