@@ -1,0 +1,4 @@
+//! Proved callers of jj_diff_presentation.
+#![tactic(auto)]
+
+pub mod callers;
