@@ -2,7 +2,7 @@
 use Rattle.std.proofs.Common.{◌≡◌, ◌∙◌, ℕ, zero, suc, ◌<◌, List, [], ◌∷◌, ap, length, map, refl}
 use Rattle.std.specs.List.{Contains}
 use Rattle.jj_dag.specs.ArrayGraphs.{graph_of}
-use Rattle.jj_dag.specs.Graph.{Graph, IsTopologicalOrder}
+use Rattle.jj_dag.specs.Graph.{IsTopologicalOrder}
 use Rattle.jj_log.specs.Numbers.{parents_of}
 use Rattle.jj_log.specs.Orders.{IsCommitOrder}
 use Rattle.jj_log.specs.declared.commits.NumberedCommit.{NumberedCommit}
