@@ -6,20 +6,22 @@ ghost use Rattle.jj_matchers.specs.Combined.{difference_spec};
 ghost use Rattle.jj_matchers.specs.MarkWalk.{WalksMarks};
 ghost use Rattle.jj_matchers.specs.PathLists.{files_spec, prefix_spec};
 ghost use Rattle.jj_matchers.specs.Patterns.{IsAccepted, is_accepted};
+ghost use Rattle.jj_matchers.specs.SortedVisits.{sorted_visit_spec};
 ghost use Rattle.jj_matchers.specs.Visits.{visit_spec};
 ghost use Rattle.jj_matchers.specs.Walk.{entered_by, files_of};
 
 use jj_matchers::matchers::{
-    self, EverythingMatcher, FilesMatcher, GlobsMatcher, GlobsMatcherBuilder, MarkWalk, Matcher,
-    PrefixMatcher, SortedMatcher, Visit, VisitDirs, VisitFiles, Walk,
+    self, EverythingMatcher, FilesMatcher, GlobsMatcher, GlobsMatcherBuilder, Matcher,
+    PrefixMatcher, SortedVisit, Visit, VisitDirs, VisitFiles, Walk,
 };
 use jj_paths::repo_path::RepoPath;
 use jj_paths::repo_path_tree::RepoPathTree;
 use std::alloc::{AllocError, Global};
 
 /// `difference_visit`.
-pub fn difference_visit(wanted: Visit, unwanted: Visit) -> Visit
-    ensures { visit_spec result ≡ difference_spec (visit_spec wanted) (visit_spec unwanted) }
+pub fn difference_visit<'a>(wanted: SortedVisit<'a>, unwanted: SortedVisit<'a>) -> SortedVisit<'a>
+    ensures { sorted_visit_spec result
+        ≡ difference_spec (sorted_visit_spec wanted.entry) (sorted_visit_spec unwanted.entry) }
 {
     matchers::difference_visit(wanted, unwanted)
 }
@@ -72,11 +74,11 @@ pub fn walk_matching<M: Matcher>(
 }
 
 /// `walk_marks`.
-pub fn walk_marks<'t, M: SortedMatcher>(
+pub fn walk_marks<'t, M: Matcher>(
     alloc: Global,
     marks: &[RepoPath<'t>],
     matcher: &M,
-) -> Result<MarkWalk<'t>, AllocError>
+) -> Result<Walk<RepoPath<'t>>, AllocError>
     ensures { IfOk result (λ walk. WalksMarks (M.accepts matcher.now) (M.visits matcher.now)
         (map path_of marks.now) (map path_of walk.files.items) (map path_of walk.entered.items)) }
 {

@@ -19,8 +19,8 @@ pub mod EmptyVisits
 pub mod SortedNames
 pub mod Singles
 mod PathSpans
-mod ExistingTrees
 mod EnteredMarks
+pub mod WalkedMarks
 mod MarkWalks
 mod MarkWalkLists
 mod SortedMarks

@@ -19,7 +19,8 @@ use Rattle.jj_matchers.specs.VisitSpecs.{VisitSpec, IsSound, all_recursively, sp
 use Rattle.jj_matchers.specs.SortedVisits.{sorted_visit_spec}
 use Rattle.jj_matchers.specs.Walk.{AreInOrder, is_entered, path_if, walk_enters}
 use Rattle.jj_matchers.specs.WalkInvariants.{DeterminesWalk}
-use Rattle.jj_matchers.specs.MarkWalkInvariants.{DecidesFile, IsAboveMark, IsAtOrAbove, IsClosed, IsCutTo, IsFresh, IsFull, IsOnWay, IsOpenAt, IsValidOpen, WalkedMarks, dir_of, is_found, top}
+use Rattle.jj_matchers.specs.MarkWalk.{IsAboveMark}
+use Rattle.jj_matchers.specs.MarkWalkInvariants.{DecidesFile, IsAtOrAbove, IsClosed, IsCutTo, IsFresh, IsFull, IsOnWay, IsOpenAt, IsValidOpen, WalkedMarks, dir_of, is_found, top}
 use Rattle.jj_matchers.specs.declared.matchers.mark_walk.OpenDirectory.{OpenDirectory}
 use Rattle.jj_matchers.proofs.PathSpans.{before_new, contains_cases, contains_first, cut_at, take_prefix}
 use Rattle.jj_matchers.proofs.WalkSteps.{root_goes_on}

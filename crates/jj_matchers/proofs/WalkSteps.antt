@@ -12,7 +12,7 @@ use Rattle.jj_paths.specs.Tree.{Tree, branches_of, branch_count, children, has_b
 use Rattle.jj_paths.specs.Nodes.{NodeAt, node_at, nodes_under}
 use Rattle.jj_matchers.specs.declared.matchers.tree_walk.Frame.{Frame}
 use Rattle.jj_matchers.specs.VisitSpecs.{VisitSpec, all_recursively, specific, nothing, IsSound}
-use Rattle.jj_matchers.specs.Visits.{visit_spec}
+use Rattle.jj_matchers.specs.SortedVisits.{sorted_visit_spec}
 use Rattle.jj_matchers.specs.Walk.{paths_where, entered_by, is_file, is_entered, continues_into, walk_enters, is_entered_directory, path_if}
 use Rattle.jj_matchers.specs.WalkInvariants.{paths_below, DeterminesWalk, PushesFrame, IsNewFrame, IsValidFrame, WalkInvariant, CompletesTo, pending_in, pending_paths, walk_measure, with_left}
 use Rattle.std.specs.declared.cmp.Ordering.TheVariants.{Less}
@@ -47,7 +47,7 @@ module _ (accepts opens : Path → Bool) (visit : Path → VisitSpec) where
 
   pub opened_is_under_way : (dir : Path) (known : VisitSpec) (tree : Tree Bool) (directory : Frame) → DeterminesWalk accepts opens visit dir known → IsNewFrame dir known tree directory → IsValidFrame accepts opens visit directory
   opened_is_under_way dir known tree directory on opened = record {
-    goes_on = subst (λ d. DeterminesWalk accepts opens visit d (visit_spec directory.visit)) (sym opened.path) (subst (DeterminesWalk accepts opens visit dir) (sym opened.visit) on);
+    goes_on = subst (λ d. DeterminesWalk accepts opens visit d (sorted_visit_spec directory.visit)) (sym opened.path) (subst (DeterminesWalk accepts opens visit dir) (sym opened.visit) on);
     by_name = opened.by_name;
   }
 
@@ -125,7 +125,7 @@ module _ (accepts opens : Path → Bool) (visit : Path → VisitSpec) (tree : Tr
     -- the rest of the stack frame is valid
     next_under_way : IsValidFrame accepts opens visit directory → IsValidFrame accepts opens visit next
     next_under_way on = record {
-      goes_on = subst (λ d. DeterminesWalk accepts opens visit d (visit_spec next.visit)) (sym path) (subst (λ a. DeterminesWalk accepts opens visit directory.dir (visit_spec a)) (sym same_visit) on.goes_on);
+      goes_on = subst (λ d. DeterminesWalk accepts opens visit d (sorted_visit_spec next.visit)) (sym path) (subst (λ a. DeterminesWalk accepts opens visit directory.dir (sorted_visit_spec a)) (sym same_visit) on.goes_on);
       by_name = ap (is_sorted name_cmp) rest ∙ (and_parts _ _ (sym (ap (is_sorted name_cmp) left) ∙ on.by_name)).1;
     }
 

@@ -11,12 +11,9 @@ use Rattle.jj_paths.specs.declared.repo_path.RepoPathComponent.{RepoPathComponen
 use Rattle.jj_matchers.specs.VisitSpecs.{VisitSpec, IsSound, nothing}
 use Rattle.jj_matchers.specs.SortedVisits.{sorted_visit_spec}
 use Rattle.jj_matchers.specs.Walk.{AreInOrder, walk_enters}
+use Rattle.jj_matchers.specs.MarkWalk.{IsAboveMark}
 use Rattle.jj_matchers.specs.WalkInvariants.{DeterminesWalk}
 use Rattle.jj_matchers.specs.declared.matchers.mark_walk.OpenDirectory.{OpenDirectory}
-
--- a directory strictly above a mark
-abbrev pub IsAboveMark : List Path → Path → Type 0
-IsAboveMark marks dir = (name : Name) × (rest : Path) × Contains marks (dir ++ name ∷ rest)
 
 -- below the root and accepted
 abbrev pub is_found : (Path → Bool) → Path → Bool

@@ -1,6 +1,6 @@
 -- Finite lists of the names that visits mention, which make it decidable whether there are any.
 -- Cited by contracts of public items: IsAllOrAmong, MentionsOnly, names_of.
-use Rattle.std.specs.Prelude.{◌≡◌, Bool, true, ◌||◌, List, [], ◌∷◌, ◌++◌, ◌⊎◌}
+use Rattle.std.specs.Prelude.{◌≡◌, Bool, true, ◌||◌, List, [], ◌∷◌, ◌++◌, ◌⊎◌, ⊤}
 use Rattle.std.specs.List.{list_any}
 use Rattle.jj_paths.specs.Paths.{Name, Path}
 use Rattle.jj_matchers.specs.VisitSpecs.{VisitSpec, all_recursively, specific, nothing}
@@ -13,9 +13,9 @@ IsAllOrAmong names test = ((name : Name) → test name ≡ true)
 
 -- the visit mentions every child, or only names of the list
 abbrev pub MentionsOnly : List Name → VisitSpec → Type 0
-MentionsOnly names all_recursively = Unit {0}
+MentionsOnly names all_recursively = ⊤
 MentionsOnly names (specific dirs files) = IsAllOrAmong names dirs × IsAllOrAmong names files
-MentionsOnly names nothing = Unit {0}
+MentionsOnly names nothing = ⊤
 
 -- whether any name satisfies such a predicate; the empty name represents all names outside of the
 -- list

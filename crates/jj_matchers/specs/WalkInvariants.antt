@@ -9,10 +9,10 @@ use Rattle.jj_paths.specs.Paths.{Name, Path, name_cmp}
 use Rattle.jj_paths.specs.Tree.{Tree, branches_of, branch_count, children}
 use Rattle.jj_paths.specs.Nodes.{NodeAt, nodes_under}
 use Rattle.jj_matchers.specs.VisitSpecs.{VisitSpec, IsSound, nothing}
-use Rattle.jj_matchers.specs.Visits.{visit_spec}
+use Rattle.jj_matchers.specs.SortedVisits.{sorted_visit_spec}
 use Rattle.jj_matchers.specs.Walk.{AreInOrder, paths_where, files_of, entered_by, is_file, is_entered, is_entered_directory, continues_into, walk_enters}
 use Rattle.jj_matchers.specs.declared.matchers.tree_walk.Frame.{Frame}
-use Rattle.jj_matchers.specs.declared.matchers.visits.Visit.{Visit}
+use Rattle.jj_matchers.specs.declared.matchers.sorted_visits.SortedVisit.{SortedVisit}
 
 -- the paths of the nodes strictly below a directory that satisfy a predicate
 abbrev pub paths_below : (NodeAt Bool → Bool) → Path → Tree Bool → List Path
@@ -29,18 +29,18 @@ pub record DeterminesWalk (accepts opens : Path → Bool) (visit : Path → Visi
 
 -- the path and the visit of a child, or none if no path below it is accepted
 abbrev pub IsChildVisit : (Path → Bool) → (Path → Bool) → (Path → VisitSpec) → Path
-    → Option (Path × Visit) → Type 0
+    → Option (Path × SortedVisit) → Type 0
 IsChildVisit accepts opens visit child None = DeterminesWalk accepts opens visit child nothing
 IsChildVisit accepts opens visit child (Some found) = (found.0 ≡ child)
-    × DeterminesWalk accepts opens visit found.0 (visit_spec found.1)
-    × (is_entered (visit_spec found.1) ≡ true → opens found.0 ≡ true)
+    × DeterminesWalk accepts opens visit found.0 (sorted_visit_spec found.1)
+    × (is_entered (sorted_visit_spec found.1) ≡ true → opens found.0 ≡ true)
 
 -- the stack frame of a directory that was entered with this visit, before its first child
 pub record IsNewFrame (dir : Path) (known : VisitSpec) (tree : Tree Bool)
     (directory : Frame) : Type 0 where
   pub entered : is_entered known ≡ true
   pub path : directory.dir ≡ dir
-  pub visit : visit_spec directory.visit ≡ known
+  pub visit : sorted_visit_spec directory.visit ≡ known
   pub left : directory.left.now ≡ children tree.branches
   pub by_name : is_sorted name_cmp directory.left.now ≡ true
 
@@ -60,7 +60,7 @@ with_left directory left = record { dir = directory.dir; visit = directory.visit
 -- a valid stack frame
 pub record IsValidFrame (accepts opens : Path → Bool) (visit : Path → VisitSpec)
     (directory : Frame) : Type 0 where
-  pub goes_on : DeterminesWalk accepts opens visit directory.dir (visit_spec directory.visit)
+  pub goes_on : DeterminesWalk accepts opens visit directory.dir (sorted_visit_spec directory.visit)
   pub by_name : is_sorted name_cmp directory.left.now ≡ true
 
 -- the paths that satisfy a predicate, at and below the children not yet visited: of one stack

@@ -12,7 +12,6 @@ mod marks;
 mod path_glob_pattern;
 mod pattern_order;
 mod prefix_matcher;
-mod sorted_operations;
 mod sorted_visits;
 mod tree_walk;
 mod union_matcher;
@@ -31,11 +30,10 @@ pub use files_matcher::FilesMatcher;
 pub use globs_matcher::{GlobsMatcher, GlobsMatcherBuilder};
 pub use intersection_matcher::{IntersectionMatcher, intersection_visit};
 use jj_paths::repo_path::RepoPath;
-pub use mark_walk::{MarkWalk, walk_marks};
+pub use mark_walk::walk_marks;
 pub use marks::marked_tree;
 pub use path_glob_pattern::PathGlobPattern;
 pub use prefix_matcher::PrefixMatcher;
-pub use sorted_operations::{difference_sorted, intersection_sorted, union_sorted};
 pub use sorted_visits::{SortedNames, SortedVisit};
 use std::alloc::{AllocError, Global};
 pub use tree_walk::{Walk, walk_matching};
@@ -61,31 +59,32 @@ pub trait Matcher: Drop {
     fn matches(&self, file: RepoPath<'_>) -> bool
         ensures { result ≡ accepts self.now (path_of file.entry) };
 
-    /// Returns where to look for paths of the set strictly below a directory.
-    fn visit(&self, alloc: Global, dir: RepoPath<'_>) -> Result<Visit, AllocError>
+    /// Returns where to look for paths of the set strictly below a directory, with names that the
+    /// matcher has.
+    fn visit_sorted(&self, alloc: Global, dir: RepoPath<'_>) -> Result<SortedVisit<'_>, AllocError>
         // The visit is the one that the ghost member `visits` has for the directory.
-        ensures visit { IfOk result (λ visit. visit_spec visit
+        ensures visit { IfOk result (λ visit. sorted_visit_spec visit
             ≡ visits self.now (path_of dir.entry)) }
         // It is `Nothing` only if no path below is accepted, and `AllRecursively` only if all are,
         // and may be opened; else it mentions each child that is accepted or has accepted paths
         // below it.
-        ensures sound { IfOk result (λ visit.
-            IsSound (accepts self.now) (opens self.now) (path_of dir.entry) (visit_spec visit)) }
+        ensures sound { IfOk result (λ visit. IsSound (accepts self.now) (opens self.now)
+            (path_of dir.entry) (sorted_visit_spec visit)) }
         // It mentions all names, or only those that `mentioned` lists.
         ensures names { IfOk result (λ visit.
-            MentionsOnly (mentioned self.now (path_of dir.entry)) (visit_spec visit)) };
-}
+            MentionsOnly (mentioned self.now (path_of dir.entry)) (sorted_visit_spec visit)) };
 
-/// A matcher that visits with sorted names, which `walk_marks` looks up.
-pub trait SortedMatcher: Matcher {
-    /// Returns the visit of a directory, as `visit` does, with names that the matcher has.
-    fn visit_sorted(&self, alloc: Global, dir: RepoPath<'_>) -> Result<SortedVisit<'_>, AllocError>
-        ensures visit { IfOk result (λ visit. sorted_visit_spec visit
-            ≡ Self.visits self.now (path_of dir.entry)) }
-        ensures sound { IfOk result (λ visit. IsSound (Self.accepts self.now)
-            (Self.opens self.now) (path_of dir.entry) (sorted_visit_spec visit)) }
+    /// Returns the visit of `visit_sorted` with names of its own.
+    fn visit(&self, alloc: Global, dir: RepoPath<'_>) -> Result<Visit, AllocError>
+        ensures visit { IfOk result (λ visit. visit_spec visit
+            ≡ visits self.now (path_of dir.entry)) }
+        ensures sound { IfOk result (λ visit.
+            IsSound (accepts self.now) (opens self.now) (path_of dir.entry) (visit_spec visit)) }
         ensures names { IfOk result (λ visit.
-            MentionsOnly (Self.mentioned self.now (path_of dir.entry)) (sorted_visit_spec visit)) };
+            MentionsOnly (mentioned self.now (path_of dir.entry)) (visit_spec visit)) }
+    {
+        self.visit_sorted(alloc, dir)?.to_visit(alloc)
+    }
 }
 
 impl<T: Matcher> Matcher for &T {
@@ -101,12 +100,6 @@ impl<T: Matcher> Matcher for &T {
         (**self).matches(file)
     }
 
-    fn visit(&self, alloc: Global, dir: RepoPath<'_>) -> Result<Visit, AllocError> {
-        (**self).visit(alloc, dir)
-    }
-}
-
-impl<T: SortedMatcher> SortedMatcher for &T {
     fn visit_sorted(
         &self,
         alloc: Global,
@@ -130,8 +123,12 @@ impl Matcher for Box<dyn Matcher> {
         (**self).matches(file)
     }
 
-    fn visit(&self, alloc: Global, dir: RepoPath<'_>) -> Result<Visit, AllocError> {
-        (**self).visit(alloc, dir)
+    fn visit_sorted(
+        &self,
+        alloc: Global,
+        dir: RepoPath<'_>,
+    ) -> Result<SortedVisit<'_>, AllocError> {
+        (**self).visit_sorted(alloc, dir)
     }
 }
 
@@ -152,12 +149,6 @@ impl Matcher for NothingMatcher {
         false
     }
 
-    fn visit(&self, _alloc: Global, _dir: RepoPath<'_>) -> Result<Visit, AllocError> {
-        Ok(Visit::Nothing)
-    }
-}
-
-impl SortedMatcher for NothingMatcher {
     fn visit_sorted(
         &self,
         _alloc: Global,
@@ -184,12 +175,6 @@ impl Matcher for EverythingMatcher {
         true
     }
 
-    fn visit(&self, _alloc: Global, _dir: RepoPath<'_>) -> Result<Visit, AllocError> {
-        Ok(Visit::AllRecursively)
-    }
-}
-
-impl SortedMatcher for EverythingMatcher {
     fn visit_sorted(
         &self,
         _alloc: Global,

@@ -1,30 +1,25 @@
 -- Soundness of the visits of the matcher of top-level names, and the paths that it accepts.
-use Rattle.std.proofs.Common.{◌≡◌, Bool, true, false, not, List, [], ◌∷◌, Contains, get_or, refl, inr, ap, sym, subst, ◌∙◌, if◌then◌else◌}
+use Rattle.std.proofs.Common.{◌≡◌, Bool, true, false, not, List, [], ◌∷◌, Contains, get_or, refl, ap, sym, subst, ◌∙◌, if◌then◌else◌}
 use Rattle.std.specs.Prelude.{◌↔◌, IsTrue}
 use mathlib.Core.Bool.{false≢true}
 use Rattle.std.specs.Str.{bytes_eq}
 use Rattle.std.proofs.lemmas.List.Folds.{Any-from_list_any, list_any_at}
 use Rattle.std.proofs.lemmas.Slice.Eq.{bytes_eq-Decides}
 use Rattle.jj_paths.specs.Paths.{Name, Path}
-use Rattle.jj_matchers.specs.VisitSpecs.{IsSound, NamesAll, all_recursively, nothing}
-use Rattle.jj_matchers.specs.MentionedNames.{IsAllOrAmong}
+use Rattle.jj_matchers.specs.VisitSpecs.{IsSound, all_recursively, nothing}
 use Rattle.jj_matchers.specs.Visits.{has_names, is_among}
 use Rattle.jj_matchers_tests.specs.TopLevel.{starts_among, top_level_spec}
 
 module _ (names : List Name) where
-  -- the visit of the names as directories and as files is sound at the root
-  pub names_all : (dir : Path) (dirs files : List Name) → dir ≡ [] → dirs ≡ names → files ≡ names → NamesAll (starts_among names) (starts_among names) dir (is_among dirs) (is_among files)
-  names_all dir dirs files root d f = rw (root, d, f) (record { files_named = λ name h. h; dirs_named = λ name next rest h. h; dirs_open = λ name h. h })
-
-  pub among : (keys : List Name) → keys ≡ names → IsAllOrAmong names (is_among keys)
-  among keys same = inr (λ name h. subst (λ l. is_among l name ≡ true) same h)
+  abbrev every : Path → Bool
+  every path = true
 
   -- the visit is everything at or below one of the names, and nothing below another name
-  pub all_below : (dir : Path) → starts_among names dir ≡ true → (all_recursively ≡ top_level_spec names dir) × IsSound (starts_among names) (starts_among names) dir all_recursively
+  pub all_below : (dir : Path) → starts_among names dir ≡ true → (all_recursively ≡ top_level_spec names dir) × IsSound (starts_among names) every dir all_recursively
   all_below [] h = absurd (false≢true h)
-  all_below (first ∷ rest) h = (ap (λ b. if b then all_recursively else nothing) (sym h), λ name more. (h, h))
+  all_below (first ∷ rest) h = (ap (λ b. if b then all_recursively else nothing) (sym h), λ name more. (h, refl))
 
-  pub none_below : (dir : Path) → starts_among names dir ≡ false → has_names dir ≡ true → (nothing ≡ top_level_spec names dir) × IsSound (starts_among names) (starts_among names) dir nothing
+  pub none_below : (dir : Path) → starts_among names dir ≡ false → has_names dir ≡ true → (nothing ≡ top_level_spec names dir) × IsSound (starts_among names) every dir nothing
   none_below [] h below = absurd (false≢true below)
   none_below (first ∷ rest) h below = (ap (λ b. if b then all_recursively else nothing) (sym h), λ name more. h)
 

@@ -11,7 +11,7 @@ use jj_globs::glob::GlobError;
 use jj_matchers::laws::walks_find_accepted_marks;
 use jj_matchers::matchers::{
     DifferenceMatcher, FilesMatcher, GlobsMatcher, PathGlobPattern, PrefixMatcher, marked_tree,
-    walk_matching,
+    walk_marks, walk_matching,
 };
 use jj_paths::repo_path::{RepoPath, RepoPathBuf};
 use std::alloc::{AllocError, Global};
@@ -62,18 +62,17 @@ pub fn files_matching(
 }
 
 /// Returns the files on both lists, in path order and each once, without the root.
-pub fn files_of_both(
+pub fn files_of_both<'t>(
     alloc: Global,
-    files: &[RepoPath<'_>],
+    files: &[RepoPath<'t>],
     others: &[RepoPath<'_>],
-) -> Result<Vec<RepoPathBuf>, AllocError>
-    ensures found { IfOk result (λ found. (path : Path) → Contains found.items path
+) -> Result<Vec<RepoPath<'t>>, AllocError>
+    ensures found { IfOk result (λ found. (path : Path) → Contains (map path_of found.items) path
         ↔ (Contains (map path_of files.now) path × (path ≢ [])
         × Contains (map path_of others.now) path)) }
-    ensures ordered { IfOk result (λ found. IsStrictlySortedBy path_cmp found.items) }
+    ensures ordered { IfOk result (λ found.
+        IsStrictlySortedBy path_cmp (map path_of found.items)) }
 {
-    walks_find_accepted_marks();
-    let tree = marked_tree(alloc, files)?;
     let matcher = FilesMatcher::new(alloc, others)?;
-    Ok(walk_matching(alloc, &tree, &matcher)?.files)
+    Ok(walk_marks(alloc, files, &matcher)?.files)
 }

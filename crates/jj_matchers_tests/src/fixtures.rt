@@ -2,8 +2,7 @@
 use jj_content_tests::retry::Passed;
 use jj_globs::glob::GlobError;
 use jj_matchers::matchers::{
-    FilesMatcher, GlobsMatcher, Matcher, PathGlobPattern, PrefixMatcher, SortedMatcher, walk_marks,
-    walk_matching,
+    FilesMatcher, GlobsMatcher, Matcher, PathGlobPattern, PrefixMatcher, walk_marks, walk_matching,
 };
 use jj_paths::repo_path::{RepoPath, RepoPathBuf};
 use jj_paths::repo_path_tree::RepoPathTree;
@@ -69,8 +68,8 @@ fn marked<R: Abort>(
     Ok(tree)
 }
 
-/// Asserts which files a walk of a tree with these marks finds, and which directories it enters,
-/// both in this order.
+/// Asserts which files a walk with these marks finds, and which directories it enters, both in this
+/// order: of the tree of the marks, and of their list.
 pub fn check_walk<R: Abort, M: Matcher>(
     rt: &R,
     alloc: Global,
@@ -83,18 +82,10 @@ pub fn check_walk<R: Abort, M: Matcher>(
     let walk = walk_matching(alloc, &tree, matcher)?;
     check_paths(rt, walk.files.as_slice(), files);
     check_paths(rt, walk.entered.as_slice(), entered);
-    Ok(())
+    check_marks(rt, alloc, matcher, marks, files, entered)
 }
 
-fn check_paths<R: Abort>(rt: &R, paths: &[RepoPathBuf], expected: &[&str]) {
-    assert_eq!(rt; paths.len(), expected.len());
-    for (path, text) in paths.iter().zip(expected) {
-        assert_eq!(rt; path.as_path().as_internal_file_string(), *text);
-    }
-}
-
-/// Asserts the same of the walk of a tree with these marks and of that of their list.
-pub fn check_both_walks<R: Abort, M: SortedMatcher>(
+fn check_marks<R: Abort, M: Matcher>(
     rt: &R,
     alloc: Global,
     matcher: &M,
@@ -102,7 +93,6 @@ pub fn check_both_walks<R: Abort, M: SortedMatcher>(
     files: &[&str],
     entered: &[&str],
 ) -> Passed {
-    check_walk(rt, alloc, matcher, marks, files, entered)?;
     let mut paths = Vec::new(alloc);
     for mark in marks {
         paths.push(path(rt, alloc, mark))?;
@@ -111,6 +101,13 @@ pub fn check_both_walks<R: Abort, M: SortedMatcher>(
     check_borrowed(rt, walk.files.as_slice(), files);
     check_borrowed(rt, walk.entered.as_slice(), entered);
     Ok(())
+}
+
+fn check_paths<R: Abort>(rt: &R, paths: &[RepoPathBuf], expected: &[&str]) {
+    assert_eq!(rt; paths.len(), expected.len());
+    for (path, text) in paths.iter().zip(expected) {
+        assert_eq!(rt; path.as_path().as_internal_file_string(), *text);
+    }
 }
 
 fn check_borrowed<R: Abort>(rt: &R, paths: &[RepoPath<'_>], expected: &[&str]) {

@@ -1,14 +1,13 @@
-//! A user-defined matcher that uses `Visit::sets`, and a walk with it, proved from the contracts.
-ghost use Rattle.std.specs.Prelude.{◌≡◌, ◌↔◌, ◌∷◌, map, Contains, IfOk};
+//! A user-defined matcher, and a walk with it, proved from the contracts.
+ghost use Rattle.std.specs.Prelude.{◌≡◌, ◌↔◌, ◌∷◌, [], true, map, Contains, IfOk};
 ghost use Rattle.std.specs.List.Sorted.{IsStrictlySortedBy};
 ghost use Rattle.jj_paths.specs.Paths.{Name, Path, path_cmp};
 ghost use Rattle.jj_paths.specs.Names.{name_of, path_of};
 ghost use Rattle.jj_matchers.specs.Visits.{has_names, is_among};
 ghost use Rattle.jj_matchers_tests.specs.TopLevel.{starts_among, top_level_spec};
 
-use jj_matchers::laws::walks_find_accepted_marks;
-use jj_matchers::matchers::{Matcher, Visit, marked_tree, walk_matching};
-use jj_paths::repo_path::{RepoPath, RepoPathBuf, RepoPathComponent, RepoPathComponentBuf};
+use jj_matchers::matchers::{Matcher, SortedNames, SortedVisit, walk_marks};
+use jj_paths::repo_path::{RepoPath, RepoPathComponent, RepoPathComponentBuf};
 use std::alloc::{AllocError, Global};
 use std::collections::HashSet;
 
@@ -42,11 +41,11 @@ fn is_below_root(path: RepoPath<'_>) -> bool
 impl Matcher for TopLevelMatcher {
     ghost accepts = { λ m. starts_among m.names.keys };
 
-    ghost opens = { λ m. starts_among m.names.keys };
+    ghost opens = { λ m path. true };
 
     ghost visits = { λ m. top_level_spec m.names.keys };
 
-    ghost mentioned = { λ m dir. m.names.keys };
+    ghost mentioned = { λ m dir. [] };
 
     fn matches(&self, file: RepoPath<'_>) -> bool {
         match file.split_first() {
@@ -55,33 +54,37 @@ impl Matcher for TopLevelMatcher {
         }
     }
 
-    fn visit(&self, _alloc: Global, dir: RepoPath<'_>) -> Result<Visit, AllocError> {
+    fn visit_sorted(
+        &self,
+        _alloc: Global,
+        dir: RepoPath<'_>,
+    ) -> Result<SortedVisit<'_>, AllocError> {
         if self.matches(dir) {
-            return Ok(Visit::AllRecursively);
+            return Ok(SortedVisit::AllRecursively);
         }
         if is_below_root(dir) {
-            return Ok(Visit::Nothing);
+            return Ok(SortedVisit::Nothing);
         }
-        let dirs = self.names.clone()?;
-        let files = self.names.clone()?;
-        Ok(Visit::sets(dirs, files))
+        Ok(SortedVisit::Specific {
+            dirs: SortedNames::All,
+            files: SortedNames::All,
+        })
     }
 }
 
 /// Returns the files of a list that are at or below one of these children of the root, in path
 /// order and each once.
-pub fn files_under(
+pub fn files_under<'t>(
     alloc: Global,
-    files: &[RepoPath<'_>],
+    files: &[RepoPath<'t>],
     names: HashSet<RepoPathComponentBuf>,
-) -> Result<Vec<RepoPathBuf>, AllocError>
-    ensures found { IfOk result (λ found. (path : Path) → Contains found.items path
+) -> Result<Vec<RepoPath<'t>>, AllocError>
+    ensures found { IfOk result (λ found. (path : Path) → Contains (map path_of found.items) path
         ↔ (Contains (map path_of files.now) path
         × ((name : Name) × (rest : Path) × (path ≡ name ∷ rest) × Contains names.keys name))) }
-    ensures ordered { IfOk result (λ found. IsStrictlySortedBy path_cmp found.items) }
+    ensures ordered { IfOk result (λ found.
+        IsStrictlySortedBy path_cmp (map path_of found.items)) }
 {
-    walks_find_accepted_marks();
-    let tree = marked_tree(alloc, files)?;
     let matcher = TopLevelMatcher::new(names);
-    Ok(walk_matching(alloc, &tree, &matcher)?.files)
+    Ok(walk_marks(alloc, files, &matcher)?.files)
 }

@@ -1,9 +1,9 @@
 //! Tests of walks with combined and with boxed matchers.
-use crate::fixtures::{check_both_walks, check_walk, file, glob, prefix};
+use crate::fixtures::{check_walk, file, glob, prefix};
 use jj_content_tests::retry::{Passed, passes};
 use jj_matchers::matchers::{
-    DifferenceMatcher, EverythingMatcher, IntersectionMatcher, Matcher, PrefixMatcher,
-    UnionMatcher, Visit,
+    DifferenceMatcher, EverythingMatcher, IntersectionMatcher, Matcher, PrefixMatcher, SortedVisit,
+    UnionMatcher,
 };
 use jj_paths::repo_path::RepoPath;
 use std::alloc::{AllocError, Global};
@@ -16,7 +16,7 @@ static ENTERED_BELOW: [&str; 3] = ["", "a", "a/y"];
 
 fn walks_intersection<R: Abort>(rt: &R, alloc: Global) -> Passed {
     let matcher = IntersectionMatcher::new(prefix(rt, alloc, "a")?, glob(rt, alloc, "a", "*")?);
-    check_both_walks(rt, alloc, &matcher, &FILES_BELOW, &["a/x"], &ENTERED_BELOW)
+    check_walk(rt, alloc, &matcher, &FILES_BELOW, &["a/x"], &ENTERED_BELOW)
 }
 
 fn all_but_a<R: Abort>(
@@ -39,7 +39,7 @@ fn walks_around<R: Abort, M: Matcher>(rt: &R, alloc: Global, matcher: &M) -> Pas
 
 fn walks_union<R: Abort>(rt: &R, alloc: Global) -> Passed {
     let union = UnionMatcher::new(all_but_a(rt, alloc)?, file(rt, alloc, "a/in")?);
-    check_both_walks(rt, alloc, &&union, &MARKS, &FILES, &ENTERED)
+    check_walk(rt, alloc, &&union, &MARKS, &FILES, &ENTERED)
 }
 
 fn walks_box_in_union<R: Abort>(rt: &R, alloc: Global) -> Passed {
@@ -76,8 +76,12 @@ impl<M: Matcher> Matcher for Boxed<M> {
         self.matcher.matches(file)
     }
 
-    fn visit(&self, alloc: Global, dir: RepoPath<'_>) -> Result<Visit, AllocError> {
-        self.matcher.visit(alloc, dir)
+    fn visit_sorted(
+        &self,
+        alloc: Global,
+        dir: RepoPath<'_>,
+    ) -> Result<SortedVisit<'_>, AllocError> {
+        self.matcher.visit_sorted(alloc, dir)
     }
 }
 

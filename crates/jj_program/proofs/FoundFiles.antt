@@ -1,18 +1,15 @@
 -- A walk finds exactly the marked paths in its set.
-use Rattle.std.proofs.Common.{◌≡◌, ◌⊎◌, Bool, true, false, not, ◌&&◌, ◌||◌, Decides, refl, ap, sym, ◌∙◌, inl, inr, true≢false}
+use Rattle.std.proofs.Common.{◌≡◌, ◌⊎◌, List, Bool, true, false, not, ◌&&◌, ◌||◌, Decides, refl, ap, sym, ◌∙◌, inl, inr, true≢false}
 use Rattle.std.proofs.lemmas.List.Folds.{Any-from_list_any, list_any_at}
 use Rattle.jj_paths.specs.Paths.{Path}
-use Rattle.jj_paths.specs.Tree.{Tree}
 use Rattle.jj_matchers.specs.PathLists.{is_at_or_below}
-use Rattle.jj_matchers.specs.Walk.{files_of, entered_by}
-use Rattle.jj_matchers.proofs.FoundMarks.{finds_marks, finds_in_order}
+use Rattle.jj_matchers.specs.MarkWalk.{WalksMarks}
 use Rattle.jj_matchers.proofs.PathLists.{Decides-is_listed, below_base, is_at_or_below-append}
 use Rattle.jj_matchers.proofs.PatternSound.{Decides-is_accepted}
 use Rattle.jj_program.specs.declared.file_set.Combination.TheVariants.{Union, Difference, Intersection}
 use Rattle.jj_program.specs.declared.file_set.matcher.FileSet.{FileSet}
 use Rattle.jj_program.specs.declared.file_set.matcher.FileSet.TheVariants.{Everything, Nothing, Files, Prefix, Globs}
 use Rattle.jj_program.specs.FoundFiles.{IsNamed, IsIn, AreFound, FindsItsFiles}
-use Rattle.jj_matchers.specs.Marks.{IsMarkedTree}
 use Rattle.jj_program.specs.WalkCommand.{SetTree, one, both, leaf_spec, spec_of, WalkRequest}
 
 -- 1. A set's test is its meaning.
@@ -55,25 +52,16 @@ is_in (both Intersection first second) path = in_both _ _ _ _ (is_in first path)
 
 -- 2. The files of a walk.
 
-are_found : (request : WalkRequest) (tree : Tree Bool) → IsMarkedTree request.marks tree → AreFound request (files_of (spec_of request.set).accepts tree)
-are_found request tree is = record {
+are_found : (request : WalkRequest) (files entered : List Path) → WalksMarks (spec_of request.set).accepts (spec_of request.set).visits request.marks files entered → AreFound request files
+are_found request files entered walks = record {
   exact = λ path.
-      let found = finds_marks request.marks tree is (spec_of request.set).accepts path in
+      let found = walks.found path in
       let within = is_in request.set path in (
         (λ h. let file = found.0 h in (file.0, file.1, within.0 file.2)),
         (λ h. found.1 (h.0, h.1, within.1 h.2)),
       );
-  ordered = finds_in_order request.marks tree is (spec_of request.set).accepts;
+  ordered = walks.files_ordered;
 }
 
 pub finds_its_files : FindsItsFiles
-finds_its_files text output h =
-    let request = h.0 in
-    let tree = h.2.0 in (
-      request,
-      files_of (spec_of request.set).accepts tree,
-      entered_by (spec_of request.set).visits tree,
-      h.1,
-      are_found request tree h.2.1,
-      h.2.2,
-    )
+finds_its_files text output (request, requested, (files, entered, walks, is)) = (request, files, entered, requested, are_found request files entered walks, is)

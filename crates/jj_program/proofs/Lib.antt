@@ -24,7 +24,6 @@ pub mod CancelTerms
 pub mod LeftTerms
 pub mod Inputs
 pub mod SamePaths
-pub mod UniqueTrees
 pub mod Numbers
 pub mod RequestedIds
 pub mod ListedGraphs

@@ -1,38 +1,34 @@
 -- Determinism of the commands.
-use Rattle.std.proofs.Common.{◌≡◌, ◌∙◌, ℕ, List, Bool, true, false, Option, Some, None, Result, Ok, Err, ap, refl, sym, subst}
-use Rattle.std.specs.Prelude.{pos}
+use Rattle.std.proofs.Common.{◌≡◌, ◌∙◌, ◌++◌, ℕ, List, Bool, true, false, Option, Some, None, Result, Ok, Err, ap, refl, sym, subst}
+use Rattle.std.specs.Prelude.{codes, pos}
 use Rattle.std.specs.Bool.{MatchBool}
 use Rattle.std.specs.Str.{bytes_eq, is_utf8}
 use Rattle.std.proofs.lemmas.Slice.Eq.{bytes_eq-Decides}
 use Rattle.jj_merges.specs.declared.merge.SameChange.{SameChange}
 use Rattle.jj_merges.specs.declared.merge.SameChange.TheVariants.{Keep, Accept}
 use Rattle.jj_merges.specs.Resolution.{ResolvesTo}
-use Rattle.jj_paths.specs.Tree.{Tree}
 use Rattle.jj_program.specs.declared.fault.Fault.{Fault}
 use Rattle.jj_program.specs.declared.fault.Fault.TheVariants.{NotUtf8}
 use Rattle.jj_program.specs.declared.program.Command.{Command}
 use Rattle.jj_program.specs.declared.program.Command.TheVariants.{Walk, Merge, Graph, Hash}
-use Rattle.jj_matchers.specs.Marks.{IsMarkedTree}
-use Rattle.jj_program.specs.WalkCommand.{WalkRequest, IsWalkResult, walk_lines}
+use Rattle.jj_matchers.specs.MarkWalk.{WalksMarks}
+use Rattle.jj_program.specs.WalkCommand.{IsWalkResult, path_lines, spec_of}
 use Rattle.jj_program.specs.declared.merge_command.MergeForm.TheVariants.{Simplify, Resolve}
 use Rattle.jj_program.specs.Lines.{AreLinesOf}
 use Rattle.jj_program.specs.MergeCommand.{MergeRequest, IsOutcome, outcome_line, IsMergeLine, IsMergeResult}
 use Rattle.jj_program.specs.Program.{HasResultOnText}
 use Rattle.jj_program.specs.Laws.{ResultsAreUnique}
-use Rattle.jj_program.proofs.UniqueTrees.{one_marked_tree}
+use Rattle.jj_matchers.proofs.WalkedMarks.{walks_once}
 use Rattle.jj_program.proofs.UniqueGraphs.{graph_result_unique}
 use Rattle.jj_program.proofs.Requests.{AreLinesOf-once}
 
--- the tree of marks is unique
-one_walk : (request : WalkRequest) (s t : Tree Bool) → IsMarkedTree request.marks s → IsMarkedTree request.marks t → walk_lines request.set s ≡ walk_lines request.set t
-one_walk request s t of_s of_t = ap (walk_lines request.set) (one_marked_tree request.marks s t of_s of_t)
-
 walk_result_unique : (text : List ℕ) (first second : Result (List ℕ) Fault) → IsWalkResult text first → IsWalkResult text second → first ≡ second
-walk_result_unique text (Ok one) (Ok other) (request, requested, (s, of_s, is)) (request', asked', (t, of_t, is')) =
+walk_result_unique text (Ok one) (Ok other) (request, requested, (files, entered, walks, is)) (request', asked', (files', entered', walks', is')) =
     let twice : Ok request ≡ Ok request' = sym requested ∙ asked' in
     let same : request ≡ request' = cc in
-    let of_t' : IsMarkedTree request.marks t = subst (λ r. IsMarkedTree r.marks t) (sym same) of_t in
-    ap Ok (is ∙ one_walk request s t of_s of_t' ∙ ap (λ r. walk_lines r.set t) same ∙ sym is')
+    let (same_files, same_entered) = walks_once (spec_of request.set).accepts (spec_of request.set).visits request.marks files files' entered entered' walks
+    (subst (λ r. WalksMarks (spec_of r.set).accepts (spec_of r.set).visits r.marks files' entered') (sym same) walks') in
+    ap Ok (is ∙ (λ i. path_lines (codes "file") (same_files i) ++ path_lines (codes "enter") (same_entered i)) ∙ sym is')
 walk_result_unique text (Ok one) (Err fault) (request, requested, found) asked' = let both : Ok request ≡ Err fault = sym requested ∙ asked' in cc
 walk_result_unique text (Err fault) (Ok one) requested (request, asked', found) = let both : Err fault ≡ Ok request = sym requested ∙ asked' in cc
 walk_result_unique text (Err fault) (Err other) requested asked' = let both : Err fault ≡ Err other = sym requested ∙ asked' in let same : fault ≡ other = cc in ap Err same

@@ -1,6 +1,6 @@
 -- The files that a walk finds, as a set.
 -- Cited by contracts of public items: FindsItsFiles.
-use Rattle.std.specs.Prelude.{◌≡◌, ◌≢◌, ◌↔◌, ◌⊎◌, ℕ, List, [], ◌++◌, codes, Contains, Ok}
+use Rattle.std.specs.Prelude.{◌≡◌, ◌≢◌, ◌↔◌, ◌⊎◌, ℕ, List, [], ◌++◌, codes, Contains, Ok, ⊤}
 use Rattle.std.specs.List.Sorted.{IsStrictlySortedBy}
 use Rattle.jj_paths.specs.Paths.{Path, path_cmp}
 use Rattle.jj_matchers.specs.Patterns.{IsAccepted}
@@ -12,7 +12,7 @@ use Rattle.jj_program.specs.WalkCommand.{SetTree, one, both, IsWalkResult, path_
 -- the path is in a leaf: all paths, none, those of a list, those at or below one of a list, or
 -- those whose suffix below a pattern's directory its glob matches
 abbrev pub IsNamed : FileSet → Path → Type 0
-IsNamed Everything path = Unit {0}
+IsNamed Everything path = ⊤
 IsNamed Nothing path = ⊥
 IsNamed (Files paths) path = Contains paths path
 IsNamed (Prefix paths) path = (base rest : Path) × Contains paths base × (path ≡ base ++ rest)
@@ -22,7 +22,7 @@ IsNamed (Globs patterns) path = IsAccepted patterns path
 abbrev pub IsIn : SetTree FileSet → Path → Type 0
 IsIn (one set) path = IsNamed set path
 IsIn (both Union first second) path = IsIn first path ⊎ IsIn second path
-IsIn (both Difference first second) path = IsIn first path × (IsIn second path → ⊥)
+IsIn (both Difference first second) path = IsIn first path × (¬ IsIn second path)
 IsIn (both Intersection first second) path = IsIn first path × IsIn second path
 
 -- exactly the marked paths below the root that are in the set, each once, in path order

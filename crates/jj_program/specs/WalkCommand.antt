@@ -21,14 +21,12 @@ use Rattle.jj_program.specs.declared.walk_command.TheConstants.{WALK_FORMS}
 use Rattle.jj_program.specs.Forms.{Kind, line_of, table}
 use Rattle.jj_program.specs.Lines.{lines_of, after_lines, result_and_then, line_text}
 use Rattle.jj_program.specs.declared.file_set.Combination.{Combination}
-use Rattle.jj_paths.specs.Tree.{Tree}
 use Rattle.jj_matchers.specs.VisitSpecs.{VisitSpec, all_recursively, nothing}
 use Rattle.jj_matchers.specs.Combined.{union_spec, difference_spec, intersection_spec}
 use Rattle.jj_matchers.specs.PathLists.{is_listed, leads_to_listed, files_spec, has_prefix, leads_to_prefix, prefix_spec}
 use Rattle.jj_matchers.specs.MentionedNames.{names_of}
 use Rattle.jj_matchers.specs.Patterns.{is_accepted, opens_to_patterns, pattern_dirs, patterns_spec}
-use Rattle.jj_matchers.specs.Walk.{files_of, entered_by}
-use Rattle.jj_matchers.specs.Marks.{IsMarkedTree}
+use Rattle.jj_matchers.specs.MarkWalk.{WalksMarks}
 use Rattle.jj_program.specs.declared.file_set.Combination.TheVariants.{Union, Difference, Intersection}
 
 -- 1. Combined sets.
@@ -185,14 +183,14 @@ spec_of (both combination first second) = combined_spec combination (spec_of fir
 abbrev pub path_lines : List ℕ → List Path → List ℕ
 path_lines name paths = flat_map (λ path. line_text name (path_string path ∷ [])) paths
 
--- the files found in a tree of marks, then the directories entered
-abbrev pub walk_lines : SetTree FileSet → Tree Bool → List ℕ
-walk_lines set tree = path_lines (codes "file") (files_of (spec_of set).accepts tree)
-    ++ path_lines (codes "enter") (entered_by (spec_of set).visits tree)
+-- the output of a walk of the marks by the set: the files, then the directories entered
+abbrev pub IsWalkOutput : List Path → SetTree FileSet → List ℕ → Type 0
+IsWalkOutput marks set output = (files entered : List Path)
+    × WalksMarks (spec_of set).accepts (spec_of set).visits marks files entered
+    × (output ≡ path_lines (codes "file") files ++ path_lines (codes "enter") entered)
 
--- the output of an input is that of a walk over the tree of its marks; or the input has this fault
+-- the output of an input is that of a walk of its marks by its set; or the input has this fault
 abbrev pub IsWalkResult : List ℕ → Result (List ℕ) Fault → Type 0
 IsWalkResult text (Ok output) = (request : WalkRequest) × (walk_request text ≡ Ok request)
-    × ((tree : Tree Bool) × IsMarkedTree request.marks tree
-    × (output ≡ walk_lines request.set tree))
+    × IsWalkOutput request.marks request.set output
 IsWalkResult text (Err fault) = walk_request text ≡ Err fault

@@ -3,11 +3,9 @@
 ghost use Rattle.std.specs.Prelude.{◌≡◌, ◌++◌, [], ◌∷◌, length, map, Bool, Ok, IfOk, IfErr, OnOk};
 ghost use Rattle.jj_paths.specs.Names.{path_of};
 ghost use Rattle.jj_paths.specs.Paths.{Path};
-ghost use Rattle.jj_paths.specs.Tree.{Tree};
 ghost use Rattle.jj_globs.specs.GlobMeaning.{GlobSpec};
-ghost use Rattle.jj_matchers.specs.Marks.{IsMarkedTree};
 ghost use Rattle.jj_program.specs.Lines.{IsFaultOf};
-ghost use Rattle.jj_program.specs.WalkCommand.{SetTree, WalkState, glob_kind, path_kind, walk_step, walk_request, IsWalkResult, walk_lines, path_lines};
+ghost use Rattle.jj_program.specs.WalkCommand.{SetTree, WalkState, glob_kind, path_kind, walk_step, walk_request, IsWalkOutput, IsWalkResult, path_lines};
 ghost use Rattle.jj_program.specs.declared.file_set.matcher.FileSet.{FileSet};
 ghost use Rattle.jj_program.specs.SetCode.{sets_of};
 
@@ -152,8 +150,7 @@ fn found_lines(
     requires { length (sets_of sets.ops.items) ≡ 1 }
     ensures { IfOk result (λ output. (set : SetTree FileSet)
         → sets_of sets.entry.ops.items ≡ set ∷ []
-        → (tree : Tree Bool) × IsMarkedTree (map path_of marks.entry.items) tree
-        × (output.items ≡ walk_lines set tree)) }
+        → IsWalkOutput (map path_of marks.entry.items) set output.items) }
 {
     let found = walk_set(alloc, &marks, sets)?;
     let mut output = Vec::new(alloc);

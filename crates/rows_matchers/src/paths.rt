@@ -1,9 +1,9 @@
 //! Parser of paths and names in fields: paths in their internal form, the root as `.`.
-use jj_paths::repo_path::{RepoPath, RepoPathComponentBuf};
+use jj_paths::repo_path::{RepoPath, RepoPathComponent, RepoPathComponentBuf};
 use rows::request::Fields;
 use rows::row_error::RowError;
 use std::alloc::{AllocError, Global};
-use std::collections::HashSet;
+use std::collections::{BTreeSet, HashSet};
 
 pub(crate) fn parse_path(alloc: Global, text: &str) -> Result<RepoPath<'_>, RowError> {
     match RepoPath::from_internal_string(alloc, if text == "." { "" } else { text }) {
@@ -34,6 +34,20 @@ pub(crate) fn parse_names(
     if joined != "-" {
         for name in parse_path(alloc, joined)?.components() {
             names.insert(name.to_owned(alloc)?)?;
+        }
+    }
+    Ok(names)
+}
+
+// Parses a set of names as `parse_names` does, sorted and borrowed.
+pub(crate) fn parse_sorted_names(
+    alloc: Global,
+    joined: &str,
+) -> Result<BTreeSet<RepoPathComponent<'_>>, RowError> {
+    let mut names = BTreeSet::new(alloc);
+    if joined != "-" {
+        for name in parse_path(alloc, joined)?.components() {
+            names.insert(name)?;
         }
     }
     Ok(names)

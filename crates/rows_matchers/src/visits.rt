@@ -1,42 +1,44 @@
 //! Requests on visits. A visit is one field: `**` (everything below), `-` (nothing below), or the
 //! children to visit as directories, a blank, and those to visit as files. `*` is every child, `-`
 //! none, else their names are joined by `/`.
-use crate::paths::{join_names, parse_names};
+use crate::paths::{join_names, parse_names, parse_sorted_names};
 use jj_matchers::matchers::{
-    Visit, VisitDirs, VisitFiles, difference_visit, intersection_visit, union_visit,
+    SortedNames, SortedVisit, Visit, VisitDirs, VisitFiles, difference_visit, intersection_visit,
+    union_visit,
 };
 use rows::request::{Fields, Request};
 use rows::row_error::{RowError, agree};
 use rows::values::Values;
 use std::alloc::{AllocError, Global};
 
-fn parse_dirs(alloc: Global, dirs: &str) -> Result<VisitDirs, RowError> {
-    if dirs == "*" {
-        return Ok(VisitDirs::All);
+fn parse_children(alloc: Global, names: &str) -> Result<SortedNames<'_>, RowError> {
+    if names == "*" {
+        return Ok(SortedNames::All);
     }
-    Ok(VisitDirs::Set(parse_names(alloc, dirs)?))
+    Ok(SortedNames::Set(parse_sorted_names(alloc, names)?))
 }
 
-fn parse_files(alloc: Global, files: &str) -> Result<VisitFiles, RowError> {
-    if files == "*" {
-        return Ok(VisitFiles::All);
-    }
-    Ok(VisitFiles::Set(parse_names(alloc, files)?))
-}
-
-fn parse_visit(alloc: Global, field: &str) -> Result<Visit, RowError> {
-    let Some((dirs, files)) = field.split_once(' ') else {
-        return match field {
-            "**" => Ok(Visit::AllRecursively),
-            "-" => Ok(Visit::Nothing),
-            _ => Err(RowError::Unreadable("visit")),
-        };
-    };
-    let dirs = parse_dirs(alloc, dirs)?;
-    Ok(Visit::Specific {
+fn parse_specific<'a>(
+    alloc: Global,
+    dirs: &'a str,
+    files: &'a str,
+) -> Result<SortedVisit<'a>, RowError> {
+    let dirs = parse_children(alloc, dirs)?;
+    Ok(SortedVisit::Specific {
         dirs,
-        files: parse_files(alloc, files)?,
+        files: parse_children(alloc, files)?,
     })
+}
+
+fn parse_visit(alloc: Global, field: &str) -> Result<SortedVisit<'_>, RowError> {
+    match field.split_once(' ') {
+        Some((dirs, files)) => parse_specific(alloc, dirs, files),
+        None => match field {
+            "**" => Ok(SortedVisit::AllRecursively),
+            "-" => Ok(SortedVisit::Nothing),
+            _ => Err(RowError::Unreadable("visit")),
+        },
+    }
 }
 
 fn format_dirs(alloc: Global, dirs: &VisitDirs) -> Result<String, AllocError> {
@@ -76,12 +78,23 @@ fn visit_combined(alloc: Global, fields: &Fields, values: &mut Values) -> Result
     let first = fields.string(0);
     let second = fields.string(1);
     let visit = union_visit(parse_visit(alloc, first)?, parse_visit(alloc, second)?)?;
-    put_visit(alloc, &visit, values);
+    put_visit(alloc, &visit.to_visit(alloc)?, values);
     let visit = difference_visit(parse_visit(alloc, first)?, parse_visit(alloc, second)?);
-    put_visit(alloc, &visit, values);
-    let visit = intersection_visit(parse_visit(alloc, first)?, parse_visit(alloc, second)?);
-    put_visit(alloc, &visit, values);
+    put_visit(alloc, &visit.to_visit(alloc)?, values);
+    let visit = intersection_visit(
+        alloc,
+        parse_visit(alloc, first)?,
+        parse_visit(alloc, second)?,
+    )?;
+    put_visit(alloc, &visit.to_visit(alloc)?, values);
     Ok(())
+}
+
+// Whether the visit of two sorted sets of names is equal to a visit.
+fn is_visit_of_sorted(alloc: Global, fields: &Fields, visit: &Visit) -> Result<bool, RowError> {
+    let dirs = parse_sorted_names(alloc, fields.string(0))?;
+    let sorted = SortedVisit::sets(dirs, parse_sorted_names(alloc, fields.string(1))?);
+    Ok(sorted.is_nothing() == visit.is_nothing() && sorted.to_visit(alloc)? == *visit)
 }
 
 // Appends the visit of two sets of names, and whether it is `Nothing`.
@@ -93,13 +106,16 @@ fn visit_sets(alloc: Global, fields: &Fields, values: &mut Values) -> Result<(),
     agree(
         (visit == Visit::Nothing) == visit.is_nothing(),
         "equality with nothing",
-    )
+    )?;
+    agree(is_visit_of_sorted(alloc, fields, &visit)?, "sorted sets")
 }
 
 // Appends for each name of a set whether it is to be visited as a directory and as a file.
 fn visit_contains(alloc: Global, fields: &Fields, values: &mut Values) -> Result<(), RowError> {
-    let dirs = parse_dirs(alloc, fields.string(0))?;
-    let files = parse_files(alloc, fields.string(1))?;
+    let visit = parse_specific(alloc, fields.string(0), fields.string(1))?;
+    let Visit::Specific { dirs, files } = visit.to_visit(alloc)? else {
+        return Err(RowError::Unreadable("visit"));
+    };
     for name in parse_names(alloc, fields.string(2))?.iter() {
         values.flag(dirs.contains(name));
         values.flag(files.contains(name));

@@ -1,12 +1,9 @@
 //! The matcher of the difference of two sets.
-ghost use Rattle.std.specs.Prelude.{◌≡◌, ◌&&◌, not, true};
-ghost use Rattle.jj_matchers.specs.VisitSpecs.{specific};
+ghost use Rattle.std.specs.Prelude.{◌≡◌, ◌&&◌, not};
 ghost use Rattle.jj_matchers.specs.Combined.{difference_spec};
-ghost use Rattle.jj_matchers.specs.Visits.{visit_spec};
+ghost use Rattle.jj_matchers.specs.SortedVisits.{sorted_visit_spec};
 
-use crate::matchers::{
-    Matcher, SortedMatcher, SortedVisit, Visit, VisitDirs, VisitFiles, difference_sorted,
-};
+use crate::matchers::{Matcher, SortedNames, SortedVisit};
 use jj_paths::repo_path::RepoPath;
 use std::alloc::{AllocError, Global};
 
@@ -41,17 +38,6 @@ impl<M1: Matcher, M2: Matcher> Matcher for DifferenceMatcher<M1, M2> {
         self.wanted.matches(file) && !self.unwanted.matches(file)
     }
 
-    fn visit(&self, alloc: Global, dir: RepoPath<'_>) -> Result<Visit, AllocError> {
-        let unwanted = self.unwanted.visit(alloc, dir)?;
-        if matches!(unwanted, Visit::AllRecursively) {
-            return Ok(Visit::Nothing);
-        }
-        let wanted = self.wanted.visit(alloc, dir)?;
-        Ok(difference_visit(wanted, unwanted))
-    }
-}
-
-impl<M1: SortedMatcher, M2: SortedMatcher> SortedMatcher for DifferenceMatcher<M1, M2> {
     fn visit_sorted(
         &self,
         alloc: Global,
@@ -62,32 +48,27 @@ impl<M1: SortedMatcher, M2: SortedMatcher> SortedMatcher for DifferenceMatcher<M
             return Ok(SortedVisit::Nothing);
         }
         let wanted = self.wanted.visit_sorted(alloc, dir)?;
-        Ok(difference_sorted(wanted, unwanted))
+        Ok(difference_visit(wanted, unwanted))
     }
 }
 
 /// Returns `wanted` minus `unwanted`. A `Specific` unwanted visit may cover only part of the paths
 /// below the names that it mentions, so it removes no names; it only turns `AllRecursively` into
 /// all children.
-pub fn difference_visit(wanted: Visit, unwanted: Visit) -> Visit
-    ensures { visit_spec result ≡ difference_spec (visit_spec wanted) (visit_spec unwanted) }
+pub fn difference_visit<'a>(wanted: SortedVisit<'a>, unwanted: SortedVisit<'a>) -> SortedVisit<'a>
+    ensures { sorted_visit_spec result
+        ≡ difference_spec (sorted_visit_spec wanted.entry) (sorted_visit_spec unwanted.entry) }
 {
     match unwanted {
-        Visit::AllRecursively => Visit::Nothing,
-        Visit::Nothing => wanted,
-        Visit::Specific { .. } => match wanted {
-            Visit::AllRecursively => all_children(),
-            Visit::Specific { dirs, files } => Visit::Specific { dirs, files },
-            Visit::Nothing => Visit::Nothing,
+        SortedVisit::AllRecursively => SortedVisit::Nothing,
+        SortedVisit::Nothing => wanted,
+        SortedVisit::Specific { .. } => match wanted {
+            SortedVisit::AllRecursively => SortedVisit::Specific {
+                dirs: SortedNames::All,
+                files: SortedNames::All,
+            },
+            SortedVisit::Specific { dirs, files } => SortedVisit::Specific { dirs, files },
+            SortedVisit::Nothing => SortedVisit::Nothing,
         },
-    }
-}
-
-fn all_children() -> Visit
-    ensures { visit_spec result ≡ specific (λ name. true) (λ name. true) }
-{
-    Visit::Specific {
-        dirs: VisitDirs::All,
-        files: VisitFiles::All,
     }
 }

@@ -7,7 +7,7 @@ ghost use Rattle.jj_matchers.specs.SortedVisits.{sorted_visit_spec};
 ghost use Rattle.jj_matchers.specs.PathLists.{HasSamePaths, is_listed, leads_to_listed, files_spec};
 
 use crate::matchers::children_visit::visit_children;
-use crate::matchers::{Matcher, SortedMatcher, SortedVisit, Visit, marked_tree};
+use crate::matchers::{Matcher, SortedVisit, marked_tree};
 use jj_paths::repo_path::RepoPath;
 use jj_paths::repo_path_tree::RepoPathTree;
 use std::alloc::{AllocError, Global};
@@ -71,12 +71,6 @@ impl Matcher for FilesMatcher {
         }
     }
 
-    fn visit(&self, alloc: Global, dir: RepoPath<'_>) -> Result<Visit, AllocError> {
-        self.compute_visit(alloc, dir)?.to_visit(alloc)
-    }
-}
-
-impl SortedMatcher for FilesMatcher {
     fn visit_sorted(
         &self,
         alloc: Global,

@@ -4,18 +4,16 @@ ghost use Rattle.std.specs.Prelude.{◌≡◌, ◌↔◌, ◌<◌, ◌≤◌, tr
 ghost use Rattle.std.specs.Option.{option_map};
 ghost use Rattle.jj_paths.specs.Paths.{Path};
 ghost use Rattle.jj_paths.specs.Names.{path_of};
-ghost use Rattle.jj_matchers.specs.VisitSpecs.{IsSound};
 ghost use Rattle.jj_matchers.specs.SortedVisits.{sorted_visit_spec};
-ghost use Rattle.jj_matchers.specs.Visits.{visit_spec};
-ghost use Rattle.jj_matchers.specs.MentionedNames.{MentionsOnly, names_of};
+ghost use Rattle.jj_matchers.specs.MentionedNames.{names_of};
 ghost use Rattle.jj_matchers.specs.Marks.{children_spec, any_node};
 ghost use Rattle.jj_matchers.specs.PathLists.{has_prefix};
-ghost use Rattle.jj_matchers.specs.Patterns.{HasSamePatterns, IsAccepted, IsSoundForGlobs, is_accepted, is_covered, opens_to_patterns, pattern_dirs, patterns_spec};
+ghost use Rattle.jj_matchers.specs.Patterns.{HasSamePatterns, IsAccepted, is_accepted, is_covered, opens_to_patterns, pattern_dirs, patterns_spec};
 ghost use Rattle.jj_matchers.specs.PatternTree.{AddsGlobs, IsPatternTree, globs_at, marked_branches, no_node};
 
 use crate::matchers::dir_patterns::DirPatterns;
 use crate::matchers::sorted_visits::insert_if;
-use crate::matchers::{Matcher, PathGlobPattern, SortedMatcher, SortedNames, SortedVisit, Visit};
+use crate::matchers::{Matcher, PathGlobPattern, SortedNames, SortedVisit};
 use jj_paths::repo_path::RepoPath;
 use jj_paths::repo_path_tree::RepoPathTree;
 use std::alloc::{AllocError, Global};
@@ -126,21 +124,6 @@ impl Matcher for GlobsMatcher {
             .any(|(node, tail)| node.value().accept(prefix_paths, tail))
     }
 
-    fn visit(&self, alloc: Global, dir: RepoPath<'_>) -> Result<Visit, AllocError>
-        ensures visit { IfOk result (λ visit. visit_spec visit
-            ≡ patterns_spec self.now (path_of dir.entry)) }
-        ensures sound { IfOk result (λ visit. IsSound (is_accepted self.now)
-            (opens_to_patterns self.now) (path_of dir.entry) (visit_spec visit)) }
-        ensures names { IfOk result (λ visit.
-            MentionsOnly (names_of (pattern_dirs self.now)) (visit_spec visit)) }
-        ensures meaning { IfOk result (λ visit.
-            IsSoundForGlobs self.now (path_of dir.entry) (visit_spec visit)) }
-    {
-        self.compute_visit(alloc, dir)?.to_visit(alloc)
-    }
-}
-
-impl SortedMatcher for GlobsMatcher {
     fn visit_sorted(
         &self,
         alloc: Global,

@@ -1,16 +1,15 @@
 //! The matcher of the intersection of two sets.
-ghost use Rattle.std.specs.Prelude.{◌≡◌, ◌&&◌, ◌++◌, List};
+ghost use Rattle.std.specs.Prelude.{◌≡◌, ◌&&◌, ◌++◌, IfOk, List};
 ghost use Rattle.jj_paths.specs.Paths.{Name};
 ghost use Rattle.jj_matchers.specs.Combined.{intersection_spec, spec_of_names};
 ghost use Rattle.jj_matchers.specs.MentionedNames.{MentionsOnly, IsAllOrAmong};
-ghost use Rattle.jj_matchers.specs.Visits.{visit_spec, dir_names, file_names, is_among};
+ghost use Rattle.jj_matchers.specs.SortedVisits.{is_named, sorted_names, sorted_visit_spec};
 
-use crate::matchers::{
-    Matcher, SortedMatcher, SortedVisit, Visit, VisitDirs, VisitFiles, intersection_sorted,
-};
-use jj_paths::repo_path::{RepoPath, RepoPathComponentBuf};
+use crate::matchers::sorted_visits::insert_if;
+use crate::matchers::{Matcher, SortedNames, SortedVisit};
+use jj_paths::repo_path::{RepoPath, RepoPathComponent};
 use std::alloc::{AllocError, Global};
-use std::collections::HashSet;
+use std::collections::BTreeSet;
 
 /// The paths that are in both sets.
 #[derive(Clone, Debug, Drop)]
@@ -44,17 +43,6 @@ impl<M1: Matcher, M2: Matcher> Matcher for IntersectionMatcher<M1, M2> {
         self.input1.matches(file) && self.input2.matches(file)
     }
 
-    fn visit(&self, alloc: Global, dir: RepoPath<'_>) -> Result<Visit, AllocError> {
-        let first = self.input1.visit(alloc, dir)?;
-        if matches!(first, Visit::Nothing) {
-            return Ok(first);
-        }
-        let second = self.input2.visit(alloc, dir)?;
-        Ok(intersection_visit(first, second))
-    }
-}
-
-impl<M1: SortedMatcher, M2: SortedMatcher> SortedMatcher for IntersectionMatcher<M1, M2> {
     fn visit_sorted(
         &self,
         alloc: Global,
@@ -65,103 +53,106 @@ impl<M1: SortedMatcher, M2: SortedMatcher> SortedMatcher for IntersectionMatcher
             return Ok(first);
         }
         let second = self.input2.visit_sorted(alloc, dir)?;
-        intersection_sorted(alloc, first, second)
+        intersection_visit(alloc, first, second)
     }
 }
 
 /// Returns the intersection of two visits: `Nothing` if they are specific and share no name.
-pub fn intersection_visit(first: Visit, second: Visit) -> Visit
-    ensures { (names : List Name) → MentionsOnly names (visit_spec first)
-        → MentionsOnly names (visit_spec second)
-        → visit_spec result ≡ intersection_spec names (visit_spec first) (visit_spec second) }
+pub fn intersection_visit<'a>(
+    alloc: Global,
+    first: SortedVisit<'a>,
+    second: SortedVisit<'a>,
+) -> Result<SortedVisit<'a>, AllocError>
+    ensures { IfOk result (λ visit. (names : List Name)
+        → MentionsOnly names (sorted_visit_spec first.entry)
+        → MentionsOnly names (sorted_visit_spec second.entry)
+        → sorted_visit_spec visit ≡ intersection_spec names (sorted_visit_spec first.entry)
+        (sorted_visit_spec second.entry)) }
 {
     match first {
-        Visit::AllRecursively => second,
-        Visit::Nothing => Visit::Nothing,
-        Visit::Specific { dirs, files } => match second {
-            Visit::AllRecursively => Visit::Specific { dirs, files },
-            Visit::Nothing => Visit::Nothing,
-            Visit::Specific {
+        SortedVisit::AllRecursively => Ok(second),
+        SortedVisit::Nothing => Ok(SortedVisit::Nothing),
+        SortedVisit::Specific { dirs, files } => match second {
+            SortedVisit::AllRecursively => Ok(SortedVisit::Specific { dirs, files }),
+            SortedVisit::Nothing => Ok(SortedVisit::Nothing),
+            SortedVisit::Specific {
                 dirs: other_dirs,
                 files: other_files,
-            } => visit_of_names(
-                intersection_dirs(dirs, other_dirs),
-                intersection_files(files, other_files),
-            ),
+            } => Ok(visit_of_names(
+                intersection_names(alloc, dirs, other_dirs)?,
+                intersection_names(alloc, files, other_files)?,
+            )),
         },
     }
 }
 
 // Returns the visit of these names, and `Nothing` if both sets are empty.
-fn visit_of_names(dirs: VisitDirs, files: VisitFiles) -> Visit
-    ensures { (names : List Name) → IsAllOrAmong names (dir_names dirs)
-        → IsAllOrAmong names (file_names files)
-        → visit_spec result ≡ spec_of_names names (dir_names dirs) (file_names files) }
+fn visit_of_names<'a>(dirs: SortedNames<'a>, files: SortedNames<'a>) -> SortedVisit<'a>
+    ensures { (names : List Name) → IsAllOrAmong names (sorted_names dirs.entry)
+        → IsAllOrAmong names (sorted_names files.entry) → sorted_visit_spec result
+        ≡ spec_of_names names (sorted_names dirs.entry) (sorted_names files.entry) }
 {
     match dirs {
-        VisitDirs::All => Visit::Specific {
-            dirs: VisitDirs::All,
+        SortedNames::All => SortedVisit::Specific {
+            dirs: SortedNames::All,
             files,
         },
-        VisitDirs::Set(dirs) => match files {
-            VisitFiles::All => Visit::Specific {
-                dirs: VisitDirs::Set(dirs),
-                files: VisitFiles::All,
+        SortedNames::Set(dirs) => match files {
+            SortedNames::All => SortedVisit::Specific {
+                dirs: SortedNames::Set(dirs),
+                files: SortedNames::All,
             },
-            VisitFiles::Set(files) => Visit::sets(dirs, files),
+            SortedNames::Set(files) => SortedVisit::sets(dirs, files),
         },
     }
 }
 
-fn intersection_dirs(first: VisitDirs, second: VisitDirs) -> VisitDirs
-    ensures { (name : Name) → dir_names result name
-        ≡ (dir_names first name && dir_names second name) }
+fn intersection_names<'a>(
+    alloc: Global,
+    first: SortedNames<'a>,
+    second: SortedNames<'a>,
+) -> Result<SortedNames<'a>, AllocError>
+    ensures { IfOk result (λ names. (name : Name) → sorted_names names name
+        ≡ (sorted_names first.entry name && sorted_names second.entry name)) }
 {
     match first {
-        VisitDirs::All => second,
-        VisitDirs::Set(names) => match second {
-            VisitDirs::All => VisitDirs::Set(names),
-            VisitDirs::Set(others) => VisitDirs::Set(intersection_names(names, others)),
-        },
-    }
-}
-
-fn intersection_files(first: VisitFiles, second: VisitFiles) -> VisitFiles
-    ensures { (name : Name) → file_names result name
-        ≡ (file_names first name && file_names second name) }
-{
-    match first {
-        VisitFiles::All => second,
-        VisitFiles::Set(names) => match second {
-            VisitFiles::All => VisitFiles::Set(names),
-            VisitFiles::Set(others) => VisitFiles::Set(intersection_names(names, others)),
+        SortedNames::All => Ok(second),
+        SortedNames::Set(names) => match second {
+            SortedNames::All => Ok(SortedNames::Set(names)),
+            SortedNames::Set(others) => {
+                Ok(SortedNames::Set(intersection_sets(alloc, names, others)?))
+            }
         },
     }
 }
 
 // Keeps the names of the smaller set that the larger one has.
-fn intersection_names(
-    first: HashSet<RepoPathComponentBuf>,
-    second: HashSet<RepoPathComponentBuf>,
-) -> HashSet<RepoPathComponentBuf>
-    ensures { (name : Name) → is_among result.keys name
-        ≡ (is_among first.keys name && is_among second.keys name) }
+fn intersection_sets<'a>(
+    alloc: Global,
+    first: BTreeSet<RepoPathComponent<'a>>,
+    second: BTreeSet<RepoPathComponent<'a>>,
+) -> Result<BTreeSet<RepoPathComponent<'a>>, AllocError>
+    ensures { IfOk result (λ common. (name : Name) → is_named common.keys name
+        ≡ (is_named first.entry.keys name && is_named second.entry.keys name)) }
 {
     if second.len() < first.len() {
-        common_names(second, &first)
+        common_names(alloc, second, first)
     } else {
-        common_names(first, &second)
+        common_names(alloc, first, second)
     }
 }
 
-fn common_names(
-    names: HashSet<RepoPathComponentBuf>,
-    others: &HashSet<RepoPathComponentBuf>,
-) -> HashSet<RepoPathComponentBuf>
-    ensures { (name : Name) → is_among result.keys name
-        ≡ (is_among names.keys name && is_among others.now.keys name) }
+fn common_names<'a>(
+    alloc: Global,
+    names: BTreeSet<RepoPathComponent<'a>>,
+    others: BTreeSet<RepoPathComponent<'a>>,
+) -> Result<BTreeSet<RepoPathComponent<'a>>, AllocError>
+    ensures { IfOk result (λ common. (name : Name) → is_named common.keys name
+        ≡ (is_named names.entry.keys name && is_named others.entry.keys name)) }
 {
-    let mut common = names;
-    common.retain(|name| others.contains(name));
-    common
+    let mut common = BTreeSet::new(alloc);
+    for name in names {
+        insert_if(&mut common, name, others.contains(&name))?;
+    }
+    Ok(common)
 }

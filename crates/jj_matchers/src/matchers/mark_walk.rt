@@ -1,5 +1,4 @@
 //! Pruned walk of marked paths in path order, with a stack of the directories above the last one.
-//! It finds the files and directories of a walk of the tree of the marks, without building it.
 ghost use Rattle.std.specs.Prelude.{◌≡◌, ◌<◌, ◌⊎◌, ◌+◌, ◌++◌, ◌∷◌, [], Contains, IfOk, List, OnOk, length, map};
 ghost use Rattle.std.specs.declared.cmp.Ordering.TheVariants.{Less};
 ghost use Rattle.jj_paths.specs.Names.{name_of, path_of};
@@ -12,18 +11,9 @@ ghost use Rattle.jj_matchers.specs.MarkWalkInvariants.{DecidesFile, IsAtOrAbove,
 ghost use Rattle.jj_matchers.specs.declared.matchers.mark_walk.OpenDirectory.{OpenDirectory};
 
 use crate::matchers::marks::sorted_marks;
-use crate::matchers::{SortedMatcher, SortedVisit};
+use crate::matchers::{Matcher, SortedVisit, Walk};
 use jj_paths::repo_path::{RepoPath, RepoPathComponent};
 use std::alloc::{AllocError, Global};
-
-/// The result of a walk of marks, both lists in path order.
-#[derive(Drop)]
-pub struct MarkWalk<'t> {
-    /// The marked paths that the matcher accepts.
-    pub files: Vec<RepoPath<'t>>,
-    /// The directories that were entered to find them.
-    pub entered: Vec<RepoPath<'t>>,
-}
 
 // A directory above the last mark, and its visit.
 #[derive(Drop)]
@@ -33,21 +23,21 @@ struct OpenDirectory<'m, 't> {
 }
 
 /// Returns the marks below the root that the matcher accepts, and the directories that were entered
-/// to find them, as `walk_matching` does for the tree of the marks. The marks may be in any order
-/// and repeat. O(n log n) comparisons of names for n names of the marks and the visits, apart from
-/// the calls of the matcher.
-pub fn walk_marks<'t, M: SortedMatcher>(
+/// to find them, as `walk_matching` does for the tree of the marks, without building it. The marks
+/// may be in any order and repeat. O(n log n) comparisons of names for n names of the marks and the
+/// visits, apart from the calls of the matcher.
+pub fn walk_marks<'t, M: Matcher>(
     alloc: Global,
     marks: &[RepoPath<'t>],
     matcher: &M,
-) -> Result<MarkWalk<'t>, AllocError>
+) -> Result<Walk<RepoPath<'t>>, AllocError>
     ensures { IfOk result (λ walk. WalksMarks (M.accepts matcher.now) (M.visits matcher.now)
         (map path_of marks.now) (map path_of walk.files.items) (map path_of walk.entered.items)) }
 {
     let sorted = sorted_marks(alloc, marks)?;
     let files = Vec::new(alloc);
     let entered = Vec::new(alloc);
-    let mut walk = MarkWalk { files, entered };
+    let mut walk = Walk { files, entered };
     let mut stack = Vec::new(alloc);
     for mark in &sorted {
         visit_mark(alloc, *mark, matcher, &mut walk, &mut stack)?;
@@ -56,11 +46,11 @@ pub fn walk_marks<'t, M: SortedMatcher>(
 }
 
 // Visits a mark that follows all earlier ones in path order.
-fn visit_mark<'m, 't: 'm, M: SortedMatcher>(
+fn visit_mark<'m, 't: 'm, M: Matcher>(
     alloc: Global,
     mark: RepoPath<'t>,
     matcher: &'m M,
-    walk: &mut MarkWalk<'t>,
+    walk: &mut Walk<RepoPath<'t>>,
     stack: &mut Vec<OpenDirectory<'m, 't>>,
 ) -> Result<(), AllocError>
     ensures { OnOk result ((done : List Path)
@@ -95,10 +85,10 @@ fn close_others(stack: &mut Vec<OpenDirectory<'_, '_>>, path: RepoPath<'_>)
 }
 
 // Opens the root, unless it is open.
-fn open_root<'m, 't, M: SortedMatcher>(
+fn open_root<'m, 't, M: Matcher>(
     alloc: Global,
     matcher: &'m M,
-    walk: &mut MarkWalk<'t>,
+    walk: &mut Walk<RepoPath<'t>>,
     stack: &mut Vec<OpenDirectory<'m, 't>>,
 ) -> Result<(), AllocError>
     ensures files { OnOk result (walk.new.files.items ≡ walk.old.files.items) }
@@ -118,11 +108,11 @@ fn open_root<'m, 't, M: SortedMatcher>(
 }
 
 // Opens the directories at and above a path that are not yet open, until one has no accepted files.
-fn open_down<'m, 't: 'm, M: SortedMatcher>(
+fn open_down<'m, 't: 'm, M: Matcher>(
     alloc: Global,
     path: RepoPath<'t>,
     matcher: &'m M,
-    walk: &mut MarkWalk<'t>,
+    walk: &mut Walk<RepoPath<'t>>,
     stack: &mut Vec<OpenDirectory<'m, 't>>,
 ) -> Result<(), AllocError>
     ensures files { OnOk result (walk.new.files.items ≡ walk.old.files.items) }
@@ -190,12 +180,12 @@ fn list_down<'t>(
 }
 
 // Opens a directory in the last open one, unless that one has no accepted files.
-fn open_child<'m, 't: 'm, M: SortedMatcher>(
+fn open_child<'m, 't: 'm, M: Matcher>(
     alloc: Global,
     dir: RepoPath<'t>,
     name: RepoPathComponent<'t>,
     matcher: &'m M,
-    walk: &mut MarkWalk<'t>,
+    walk: &mut Walk<RepoPath<'t>>,
     stack: &mut Vec<OpenDirectory<'m, 't>>,
 ) -> Result<(), AllocError>
     ensures files { OnOk result (walk.new.files.items ≡ walk.old.files.items) }
@@ -224,7 +214,7 @@ fn open_child<'m, 't: 'm, M: SortedMatcher>(
 fn open_directory<'m, 't>(
     dir: RepoPath<'t>,
     visit: SortedVisit<'m>,
-    walk: &mut MarkWalk<'t>,
+    walk: &mut Walk<RepoPath<'t>>,
     stack: &mut Vec<OpenDirectory<'m, 't>>,
 ) -> Result<(), AllocError>
     ensures files { OnOk result (walk.new.files.items ≡ walk.old.files.items) }
@@ -245,7 +235,7 @@ fn open_directory<'m, 't>(
 
 // Returns the visit of a child of a directory with the visit `parent`. Calls the matcher only in a
 // `Specific` visit.
-fn child_visit<'m, M: SortedMatcher>(
+fn child_visit<'m, M: Matcher>(
     alloc: Global,
     parent: &SortedVisit<'m>,
     dir: RepoPath<'_>,
@@ -273,11 +263,11 @@ fn child_visit<'m, M: SortedMatcher>(
 }
 
 // Adds a mark to the files, if it is accepted.
-fn push_file<'m, 't: 'm, M: SortedMatcher>(
+fn push_file<'m, 't: 'm, M: Matcher>(
     mark: RepoPath<'t>,
     name: RepoPathComponent<'t>,
     matcher: &M,
-    walk: &mut MarkWalk<'t>,
+    walk: &mut Walk<RepoPath<'t>>,
     stack: &[OpenDirectory<'m, 't>],
 ) -> Result<(), AllocError>
     ensures files { OnOk result (0 < length stack.now → ((d : OpenDirectory)
@@ -297,7 +287,7 @@ fn push_file<'m, 't: 'm, M: SortedMatcher>(
 }
 
 // Calls the matcher only in a `Specific` visit.
-fn is_accepted<'m, M: SortedMatcher>(
+fn is_accepted<'m, M: Matcher>(
     mark: RepoPath<'_>,
     name: RepoPathComponent<'m>,
     directory: &OpenDirectory<'m, '_>,

@@ -7,7 +7,7 @@ ghost use Rattle.jj_matchers.specs.SortedVisits.{sorted_visit_spec};
 ghost use Rattle.jj_matchers.specs.PathLists.{HasSamePaths, has_prefix, leads_to_prefix, prefix_spec};
 
 use crate::matchers::children_visit::visit_children;
-use crate::matchers::{Matcher, SortedMatcher, SortedVisit, Visit, marked_tree};
+use crate::matchers::{Matcher, SortedVisit, marked_tree};
 use jj_paths::repo_path::RepoPath;
 use jj_paths::repo_path_tree::RepoPathTree;
 use std::alloc::{AllocError, Global};
@@ -73,12 +73,6 @@ impl Matcher for PrefixMatcher {
         self.tree.walk_to(file).any(|(node, _)| *node.value())
     }
 
-    fn visit(&self, alloc: Global, dir: RepoPath<'_>) -> Result<Visit, AllocError> {
-        self.compute_visit(alloc, dir)?.to_visit(alloc)
-    }
-}
-
-impl SortedMatcher for PrefixMatcher {
     fn visit_sorted(
         &self,
         alloc: Global,

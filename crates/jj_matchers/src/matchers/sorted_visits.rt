@@ -1,10 +1,11 @@
 //! Visits whose names are sorted and borrowed from a matcher, so that a lookup costs a logarithmic
 //! number of comparisons whatever the names, and copies none.
-ghost use Rattle.std.specs.Prelude.{◌≡◌, ◌↔◌, ◌&&◌, ◌||◌, IfOk, OnOk, IsTrue, map};
+ghost use Rattle.std.specs.Prelude.{◌≡◌, ◌↔◌, ◌&&◌, ◌||◌, Bool, List, IfOk, OnOk, IsTrue, map};
 ghost use Rattle.std.specs.Str.{bytes_eq};
 ghost use Rattle.jj_paths.specs.Names.{name_of};
-ghost use Rattle.jj_paths.specs.Paths.{Name};
-ghost use Rattle.jj_matchers.specs.VisitSpecs.{nothing};
+ghost use Rattle.jj_paths.specs.Paths.{Name, Path};
+ghost use Rattle.jj_matchers.specs.VisitSpecs.{IsSound, NamesAll, nothing};
+ghost use Rattle.jj_matchers.specs.MentionedNames.{MentionsOnly, IsAllOrAmong};
 ghost use Rattle.jj_matchers.specs.Visits.{visit_spec, dir_names, file_names, is_among, sets_spec};
 ghost use Rattle.jj_matchers.specs.SortedVisits.{is_named, sorted_names, sorted_visit_spec};
 
@@ -36,13 +37,20 @@ pub enum SortedNames<'a> {
 }
 
 impl<'a> SortedVisit<'a> {
-    /// Returns the visit of these children; `Nothing` if both sets are empty.
+    /// Returns the visit of these children; `Nothing` if both sets are empty. It is sound for a
+    /// matcher that accepts no other children, and no paths below other directories.
     pub fn sets(
         dirs: BTreeSet<RepoPathComponent<'a>>,
         files: BTreeSet<RepoPathComponent<'a>>,
     ) -> SortedVisit<'a>
-        ensures { sorted_visit_spec result
+        ensures visit { sorted_visit_spec result
             ≡ sets_spec (map name_of dirs.entry.keys) (map name_of files.entry.keys) }
+        ensures sound { (accepts opens : Path → Bool) (dir : Path)
+            → NamesAll accepts opens dir (is_named dirs.entry.keys) (is_named files.entry.keys)
+            → IsSound accepts opens dir (sorted_visit_spec result) }
+        ensures names { (names : List Name) → IsAllOrAmong names (is_named dirs.entry.keys)
+            → IsAllOrAmong names (is_named files.entry.keys)
+            → MentionsOnly names (sorted_visit_spec result) }
     {
         if dirs.is_empty() && files.is_empty() {
             SortedVisit::Nothing

@@ -3,29 +3,30 @@ ghost use Rattle.std.specs.Prelude.{◌≡◌, ◌<◌, ◌⊎◌, Bool, true, f
 ghost use Rattle.jj_paths.specs.Tree.{Tree};
 ghost use Rattle.jj_paths.specs.Nodes.{node_at};
 ghost use Rattle.jj_matchers.specs.VisitSpecs.{IsSound};
-ghost use Rattle.jj_matchers.specs.Visits.{visit_spec};
+ghost use Rattle.jj_matchers.specs.SortedVisits.{sorted_visit_spec};
 ghost use Rattle.jj_matchers.specs.Walk.{AreInOrder, files_of, entered_by, is_file, path_if};
 ghost use Rattle.jj_matchers.specs.WalkInvariants.{DeterminesWalk, IsChildVisit, PushesFrame, IsValidFrame, WalkInvariant, walk_measure, with_left};
 
-use crate::matchers::{Matcher, Visit};
+use crate::matchers::{Matcher, SortedVisit};
 use jj_paths::repo_path::{RepoPathBuf, RepoPathComponentBuf};
 use jj_paths::repo_path_tree::RepoPathTree;
 use std::alloc::{AllocError, Global};
 
-/// The result of a walk, both lists in path order.
+/// The result of a walk, both lists in path order. A walk of a tree copies the paths, one of a list
+/// of marks borrows them.
 #[derive(Drop)]
-pub struct Walk {
+pub struct Walk<P = RepoPathBuf> {
     /// The marked paths that the matcher accepts.
-    pub files: Vec<RepoPathBuf>,
+    pub files: Vec<P>,
     /// The directories that were entered to find them.
-    pub entered: Vec<RepoPathBuf>,
+    pub entered: Vec<P>,
 }
 
 // A stack frame: a directory that was entered, its visit, and its children not yet visited.
 #[derive(Drop)]
 struct Frame<'t> {
     dir: RepoPathBuf,
-    visit: Visit,
+    visit: SortedVisit<'t>,
     left: &'t [(RepoPathComponentBuf, RepoPathTree<bool>)],
 }
 
@@ -65,7 +66,7 @@ pub fn walk_matching<M: Matcher>(
 fn enter_root<'t, M: Matcher>(
     alloc: Global,
     tree: &'t RepoPathTree<bool>,
-    matcher: &M,
+    matcher: &'t M,
     walk: &mut Walk,
 ) -> Result<Vec<Frame<'t>>, AllocError>
     requires { (walk.old.files.items ≡ []) × (walk.old.entered.items ≡ []) }
@@ -78,7 +79,7 @@ fn enter_root<'t, M: Matcher>(
         return Ok(stack);
     }
     let root = RepoPathBuf::root(alloc);
-    let visit = matcher.visit(alloc, root.as_path())?;
+    let visit = matcher.visit_sorted(alloc, root.as_path())?;
     enter(alloc, tree, root, visit, walk, &mut stack)?;
     Ok(stack)
 }
@@ -87,7 +88,7 @@ fn enter_root<'t, M: Matcher>(
 fn visit_next_child<'t, M: Matcher>(
     alloc: Global,
     directory: Frame<'t>,
-    matcher: &M,
+    matcher: &'t M,
     walk: &mut Walk,
     stack: &mut Vec<Frame<'t>>,
 ) -> Result<(), AllocError>
@@ -135,15 +136,15 @@ fn push_frame<'t>(
 }
 
 // Adds the child to the files, if it is marked and accepted.
-fn push_file<M: Matcher>(
+fn push_file<'t, M: Matcher>(
     alloc: Global,
-    directory: &Frame<'_>,
-    child: &(RepoPathComponentBuf, RepoPathTree<bool>),
+    directory: &Frame<'t>,
+    child: &'t (RepoPathComponentBuf, RepoPathTree<bool>),
     matcher: &M,
     walk: &mut Walk,
 ) -> Result<(), AllocError>
     requires { IsSound (M.accepts matcher.now) (M.opens matcher.now) directory.now.dir
-        (visit_spec directory.now.visit) }
+        (sorted_visit_spec directory.now.visit) }
     ensures files { OnOk result (walk.new.files.items ≡ walk.old.files.items
         ++ path_if (is_file (M.accepts matcher.now)
         (node_at (directory.now.dir ++ child.now.0 ∷ []) child.now.1))
@@ -166,13 +167,13 @@ fn enter<'t>(
     alloc: Global,
     tree: &'t RepoPathTree<bool>,
     dir: RepoPathBuf,
-    visit: Visit,
+    visit: SortedVisit<'t>,
     walk: &mut Walk,
     stack: &mut Vec<Frame<'t>>,
 ) -> Result<(), AllocError>
     ensures files { OnOk result (walk.new.files.items ≡ walk.old.files.items) }
     ensures entered { OnOk result (PushesFrame dir
-        (visit_spec visit) tree.now walk.old.entered.items walk.new.entered.items
+        (sorted_visit_spec visit.entry) tree.now walk.old.entered.items walk.new.entered.items
         stack.old.items stack.new.items) }
 {
     if visit.is_nothing() {
@@ -189,23 +190,23 @@ fn enter<'t>(
 
 // Returns the path of a child, if it is accepted. Joins the path only if the visit does not already
 // exclude the child, and calls the matcher only for a file of a `Specific` visit.
-fn accepted_path<M: Matcher>(
+fn accepted_path<'t, M: Matcher>(
     alloc: Global,
-    directory: &Frame<'_>,
-    name: &RepoPathComponentBuf,
+    directory: &Frame<'t>,
+    name: &'t RepoPathComponentBuf,
     matcher: &M,
 ) -> Result<Option<RepoPathBuf>, AllocError>
     requires { IsSound (M.accepts matcher.now) (M.opens matcher.now) directory.now.dir
-        (visit_spec directory.now.visit) }
+        (sorted_visit_spec directory.now.visit) }
     ensures { IfOk result (λ accepted. MatchOption accepted
         (M.accepts matcher.now (directory.now.dir ++ name.now ∷ []) ≡ false)
         (λ path. (path ≡ directory.now.dir ++ name.now ∷ [])
         × (M.accepts matcher.now (directory.now.dir ++ name.now ∷ []) ≡ true))) }
 {
     match &directory.visit {
-        Visit::AllRecursively => Ok(Some(child_path(alloc, directory, name)?)),
-        Visit::Specific { dirs: _, files } => {
-            if !files.contains(name) {
+        SortedVisit::AllRecursively => Ok(Some(child_path(alloc, directory, name)?)),
+        SortedVisit::Specific { dirs: _, files } => {
+            if !files.contains(name.as_component()) {
                 return Ok(None);
             }
             let path = child_path(alloc, directory, name)?;
@@ -215,37 +216,37 @@ fn accepted_path<M: Matcher>(
                 Ok(None)
             }
         }
-        Visit::Nothing => Ok(None),
+        SortedVisit::Nothing => Ok(None),
     }
 }
 
 // Returns the path and the visit of a child, or `None` if no path below it is accepted. Calls the
 // matcher only for a directory of a `Specific` visit.
-fn child_visit<M: Matcher>(
+fn child_visit<'t, M: Matcher>(
     alloc: Global,
-    directory: &Frame<'_>,
-    name: &RepoPathComponentBuf,
-    matcher: &M,
-) -> Result<Option<(RepoPathBuf, Visit)>, AllocError>
+    directory: &Frame<'t>,
+    name: &'t RepoPathComponentBuf,
+    matcher: &'t M,
+) -> Result<Option<(RepoPathBuf, SortedVisit<'t>)>, AllocError>
     requires { DeterminesWalk (M.accepts matcher.now) (M.opens matcher.now)
-        (M.visits matcher.now) directory.now.dir (visit_spec directory.now.visit) }
+        (M.visits matcher.now) directory.now.dir (sorted_visit_spec directory.now.visit) }
     ensures { IfOk result (IsChildVisit (M.accepts matcher.now) (M.opens matcher.now)
         (M.visits matcher.now) (directory.now.dir ++ name.now ∷ [])) }
 {
     match &directory.visit {
-        Visit::AllRecursively => {
+        SortedVisit::AllRecursively => {
             let path = child_path(alloc, directory, name)?;
-            Ok(Some((path, Visit::AllRecursively)))
+            Ok(Some((path, SortedVisit::AllRecursively)))
         }
-        Visit::Specific { dirs, files: _ } => {
-            if !dirs.contains(name) {
+        SortedVisit::Specific { dirs, files: _ } => {
+            if !dirs.contains(name.as_component()) {
                 return Ok(None);
             }
             let path = child_path(alloc, directory, name)?;
-            let visit = matcher.visit(alloc, path.as_path())?;
+            let visit = matcher.visit_sorted(alloc, path.as_path())?;
             Ok(Some((path, visit)))
         }
-        Visit::Nothing => Ok(None),
+        SortedVisit::Nothing => Ok(None),
     }
 }
 

@@ -2,14 +2,13 @@
 ghost use Rattle.std.specs.Prelude.{◌≡◌, ◌||◌, ◌++◌, IfOk};
 ghost use Rattle.jj_paths.specs.Paths.{Name};
 ghost use Rattle.jj_matchers.specs.Combined.{union_spec};
-ghost use Rattle.jj_matchers.specs.Visits.{visit_spec, dir_names, file_names, is_among};
+ghost use Rattle.jj_matchers.specs.SortedVisits.{is_named, sorted_names, sorted_visit_spec};
 
-use crate::matchers::{
-    Matcher, SortedMatcher, SortedVisit, Visit, VisitDirs, VisitFiles, union_sorted,
-};
-use jj_paths::repo_path::{RepoPath, RepoPathComponentBuf};
+use crate::matchers::sorted_visits::insert_if;
+use crate::matchers::{Matcher, SortedNames, SortedVisit};
+use jj_paths::repo_path::{RepoPath, RepoPathComponent};
 use std::alloc::{AllocError, Global};
-use std::collections::HashSet;
+use std::collections::BTreeSet;
 
 /// The paths that are in at least one of two sets.
 #[derive(Clone, Debug, Drop)]
@@ -41,17 +40,6 @@ impl<M1: Matcher, M2: Matcher> Matcher for UnionMatcher<M1, M2> {
         self.input1.matches(file) || self.input2.matches(file)
     }
 
-    fn visit(&self, alloc: Global, dir: RepoPath<'_>) -> Result<Visit, AllocError> {
-        let first = self.input1.visit(alloc, dir)?;
-        if matches!(first, Visit::AllRecursively) {
-            return Ok(first);
-        }
-        let second = self.input2.visit(alloc, dir)?;
-        union_visit(first, second)
-    }
-}
-
-impl<M1: SortedMatcher, M2: SortedMatcher> SortedMatcher for UnionMatcher<M1, M2> {
     fn visit_sorted(
         &self,
         alloc: Global,
@@ -62,66 +50,61 @@ impl<M1: SortedMatcher, M2: SortedMatcher> SortedMatcher for UnionMatcher<M1, M2
             return Ok(first);
         }
         let second = self.input2.visit_sorted(alloc, dir)?;
-        union_sorted(first, second)
+        union_visit(first, second)
     }
 }
 
 /// Returns the union of two visits. Folded over the visits of many matchers, it computes the visit
 /// of their union without nested matchers.
-pub fn union_visit(first: Visit, second: Visit) -> Result<Visit, AllocError>
-    ensures { IfOk result (λ visit. visit_spec visit
-        ≡ union_spec (visit_spec first) (visit_spec second)) }
+pub fn union_visit<'a>(
+    first: SortedVisit<'a>,
+    second: SortedVisit<'a>,
+) -> Result<SortedVisit<'a>, AllocError>
+    ensures { IfOk result (λ visit. sorted_visit_spec visit
+        ≡ union_spec (sorted_visit_spec first.entry) (sorted_visit_spec second.entry)) }
 {
     match first {
-        Visit::AllRecursively => Ok(Visit::AllRecursively),
-        Visit::Nothing => Ok(second),
-        Visit::Specific { dirs, files } => match second {
-            Visit::AllRecursively => Ok(Visit::AllRecursively),
-            Visit::Nothing => Ok(Visit::Specific { dirs, files }),
-            Visit::Specific {
+        SortedVisit::AllRecursively => Ok(SortedVisit::AllRecursively),
+        SortedVisit::Nothing => Ok(second),
+        SortedVisit::Specific { dirs, files } => match second {
+            SortedVisit::AllRecursively => Ok(SortedVisit::AllRecursively),
+            SortedVisit::Nothing => Ok(SortedVisit::Specific { dirs, files }),
+            SortedVisit::Specific {
                 dirs: more_dirs,
                 files: more_files,
-            } => Ok(Visit::Specific {
-                dirs: union_dirs(dirs, more_dirs)?,
-                files: union_files(files, more_files)?,
+            } => Ok(SortedVisit::Specific {
+                dirs: union_names(dirs, more_dirs)?,
+                files: union_names(files, more_files)?,
             }),
         },
     }
 }
 
-fn union_dirs(first: VisitDirs, second: VisitDirs) -> Result<VisitDirs, AllocError>
-    ensures { IfOk result (λ dirs. (name : Name)
-        → dir_names dirs name ≡ (dir_names first name || dir_names second name)) }
+fn union_names<'a>(
+    first: SortedNames<'a>,
+    second: SortedNames<'a>,
+) -> Result<SortedNames<'a>, AllocError>
+    ensures { IfOk result (λ names. (name : Name)
+        → sorted_names names name
+        ≡ (sorted_names first.entry name || sorted_names second.entry name)) }
 {
     match first {
-        VisitDirs::All => Ok(VisitDirs::All),
-        VisitDirs::Set(names) => match second {
-            VisitDirs::All => Ok(VisitDirs::All),
-            VisitDirs::Set(more) => Ok(VisitDirs::Set(union_names(names, more)?)),
-        },
-    }
-}
-
-fn union_files(first: VisitFiles, second: VisitFiles) -> Result<VisitFiles, AllocError>
-    ensures { IfOk result (λ files. (name : Name)
-        → file_names files name ≡ (file_names first name || file_names second name)) }
-{
-    match first {
-        VisitFiles::All => Ok(VisitFiles::All),
-        VisitFiles::Set(names) => match second {
-            VisitFiles::All => Ok(VisitFiles::All),
-            VisitFiles::Set(more) => Ok(VisitFiles::Set(union_names(names, more)?)),
+        SortedNames::All => Ok(SortedNames::All),
+        SortedNames::Set(names) => match second {
+            SortedNames::All => Ok(SortedNames::All),
+            SortedNames::Set(more) => Ok(SortedNames::Set(union_sets(names, more)?)),
         },
     }
 }
 
 // Moves the names of the smaller set to the larger one.
-fn union_names(
-    first: HashSet<RepoPathComponentBuf>,
-    second: HashSet<RepoPathComponentBuf>,
-) -> Result<HashSet<RepoPathComponentBuf>, AllocError>
+fn union_sets<'a>(
+    first: BTreeSet<RepoPathComponent<'a>>,
+    second: BTreeSet<RepoPathComponent<'a>>,
+) -> Result<BTreeSet<RepoPathComponent<'a>>, AllocError>
     ensures { IfOk result (λ names. (name : Name)
-        → is_among names.keys name ≡ (is_among first.keys name || is_among second.keys name)) }
+        → is_named names.keys name
+        ≡ (is_named first.entry.keys name || is_named second.entry.keys name)) }
 {
     if first.len() < second.len() {
         insert_names(second, first)
@@ -130,16 +113,17 @@ fn union_names(
     }
 }
 
-fn insert_names(
-    names: HashSet<RepoPathComponentBuf>,
-    more: HashSet<RepoPathComponentBuf>,
-) -> Result<HashSet<RepoPathComponentBuf>, AllocError>
+fn insert_names<'a>(
+    names: BTreeSet<RepoPathComponent<'a>>,
+    more: BTreeSet<RepoPathComponent<'a>>,
+) -> Result<BTreeSet<RepoPathComponent<'a>>, AllocError>
     ensures { IfOk result (λ all. (name : Name)
-        → is_among all.keys name ≡ (is_among names.keys name || is_among more.keys name)) }
+        → is_named all.keys name
+        ≡ (is_named names.entry.keys name || is_named more.entry.keys name)) }
 {
     let mut all = names;
     for name in more {
-        all.insert(name)?;
+        insert_if(&mut all, name, true)?;
     }
     Ok(all)
 }

@@ -13,9 +13,9 @@ ghost use Rattle.jj_program.specs.SetCode.{op_of, set_of, IsAlike, IsAlikeOp, ma
 
 use crate::file_set::{Combination, SetLine, SetOp, SetStack, SetWord, compile, evaluate};
 use jj_matchers::matchers::{
-    EverythingMatcher, FilesMatcher, GlobsMatcher, MarkWalk, Matcher, NothingMatcher,
-    PathGlobPattern, PrefixMatcher, SortedMatcher, SortedVisit, Visit, difference_sorted,
-    intersection_sorted, union_sorted, walk_marks,
+    EverythingMatcher, FilesMatcher, GlobsMatcher, Matcher, NothingMatcher, PathGlobPattern,
+    PrefixMatcher, SortedVisit, Walk, difference_visit, intersection_visit, union_visit,
+    walk_marks,
 };
 use jj_paths::repo_path::RepoPath;
 use std::alloc::{AllocError, Global};
@@ -51,12 +51,6 @@ impl Matcher for FileSet {
         }
     }
 
-    fn visit(&self, alloc: Global, dir: RepoPath<'_>) -> Result<Visit, AllocError> {
-        self.visit_sorted(alloc, dir)?.to_visit(alloc)
-    }
-}
-
-impl SortedMatcher for FileSet {
     fn visit_sorted(
         &self,
         alloc: Global,
@@ -132,12 +126,6 @@ impl Matcher for SetMatcher {
         evaluate(&self.code, file)
     }
 
-    fn visit(&self, alloc: Global, dir: RepoPath<'_>) -> Result<Visit, AllocError> {
-        self.visit_sorted(alloc, dir)?.to_visit(alloc)
-    }
-}
-
-impl SortedMatcher for SetMatcher {
     fn visit_sorted(
         &self,
         alloc: Global,
@@ -222,9 +210,9 @@ fn combined_visit<'a>(
         → sorted_visit_spec visit ≡ (spec_of (both combination one two)).visits dir) }
 {
     match combination {
-        Combination::Union => union_sorted(first, second),
-        Combination::Difference => Ok(difference_sorted(first, second)),
-        Combination::Intersection => intersection_sorted(alloc, first, second),
+        Combination::Union => union_visit(first, second),
+        Combination::Difference => Ok(difference_visit(first, second)),
+        Combination::Intersection => intersection_visit(alloc, first, second),
     }
 }
 
@@ -275,7 +263,7 @@ pub(crate) fn walk_set<'t>(
     alloc: Global,
     marks: &[RepoPath<'t>],
     sets: SetStack<'_>,
-) -> Result<MarkWalk<'t>, AllocError>
+) -> Result<Walk<RepoPath<'t>>, AllocError>
     requires { length (sets_of sets.ops.items) ≡ 1 }
     ensures { IfOk result (λ walk. (set : SetTree FileSet)
         → sets_of sets.entry.ops.items ≡ set ∷ []

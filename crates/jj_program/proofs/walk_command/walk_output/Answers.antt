@@ -20,5 +20,4 @@ returns-in-1-clause-done c =
     let read : after_lines walk_step 1 begun (lines_of c.args.text.now) ≡ Ok state =
     ap (λ s. after_lines walk_step 1 s (lines_of c.args.text.now)) (sym start) ∙ c.in_ok-take_lines.ensures in
     let requested : walk_request c.args.text.now ≡ Ok request = ap (λ r. result_and_then r (λ state. only_set state.marks state.stack)) read ∙ ap (only_set marks) item.1 in
-    let (tree, marked, lines) = c.in_ok-found_lines-in-1.ensures item.0 item.1 in
-    (request, requested, (tree, marked, lines))
+    (request, requested, c.in_ok-found_lines-in-1.ensures item.0 item.1)

@@ -13,7 +13,7 @@ pub returns : goal.returns
 returns c =
     let i = c.loop-name.invariant in
     let left = c.in-None.ensures.steps.0 in
-    c.sets.ensures
+    c.sets.ensures.visit
     ∙ sets_are (counts_as_dir c.args.all_dirs) has_mark c.args.tree.now.branches c.children-name-items.ensures.by_name (map name_of c.loop-name.dirs.keys) (map name_of c.loop-name.files.keys)
     (λ name. none_left (counts_as_dir c.args.all_dirs) name _ _ _ left (i.dirs name)) (λ name. none_left has_mark name _ _ _ left (i.files name))
 

@@ -16,7 +16,7 @@ use Rattle.jj_matchers.proofs.matchers.globs_matcher.visit_directories.Goals as 
 pub returns : goal.returns
 returns c =
     let names = map name_of c.loop-name.dirs.keys in
-    c.sets.ensures
+    c.sets.ensures.visit
     ∙ ap (λ (l : List RepoPathComponent). sets_spec names (map name_of l)) c.new.ensures.empty
     ∙ directories_are c.args.tree.now.branches names c.children-name-items.ensures.by_name (none_left names _ _ c.in-None.ensures.steps.0 c.loop-name.invariant.dirs)
 

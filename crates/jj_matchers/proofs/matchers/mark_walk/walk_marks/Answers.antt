@@ -3,7 +3,7 @@ use Rattle.std.proofs.lemmas.List.{map_more, take_all}
 use Rattle.jj_paths.specs.Names.{path_of}
 use Rattle.jj_matchers.specs.Walk.{AreInOrder}
 use Rattle.jj_matchers.specs.MarkWalkInvariants.{WalkedMarks}
-use Rattle.jj_matchers.proofs.EnteredMarks.{walks_marks}
+use Rattle.jj_matchers.proofs.WalkedMarks.{walks_marks}
 use Rattle.jj_matchers.proofs.MarkWalks.{follows_earlier, walked_all, walked_start}
 use Rattle.jj_matchers.proofs.matchers.mark_walk.walk_marks.Goals as goal
 

@@ -1,6 +1,6 @@
 use Rattle.std.proofs.Common.{◌≡◌, ◌<◌, ◌∷◌, ◌++◌, [], refl, sym, subst, ◌∙◌}
 use Rattle.std.proofs.lemmas.Result.{on_ok_weaker}
-use Rattle.jj_matchers.specs.Visits.{visit_spec}
+use Rattle.jj_matchers.specs.SortedVisits.{sorted_visit_spec}
 use Rattle.jj_matchers.specs.WalkInvariants.{IsChildVisit, walk_measure, with_left}
 use Rattle.jj_matchers.proofs.WalkSteps.{way_finished, goes_on_past, goes_on_without, goes_on_below, less_finished, less_past, less_below, no_length}
 use Rattle.jj_matchers.proofs.matchers.tree_walk.visit_next_child.Goals as goal
@@ -57,10 +57,10 @@ returns-clause-on_the_way g c = λ tree way.
     let m = c.args.matcher.now in
     let below = subst (IsChildVisit (g.M.Matcher.accepts m) (g.M.Matcher.opens m) (g.M.Matcher.visits m) (c.args.directory.dir ++ c.in-Some.child.now.0 ∷ [])) c.in-Some-2.is c.in_ok-path.ensures in
     goes_on_below (g.M.Matcher.accepts m) (g.M.Matcher.opens m) (g.M.Matcher.visits m) tree _ _ c.args.stack.now.items c.args.directory c.in-Some.child.now.0 c.in-Some.child.now.1 c.in-Some.left c.in-Some.ensures.cases.0
-    _ _ (c.in_ok-enter.ensures.files ∙ c.in_ok-push_file.ensures.files) c.in_ok-push_file.ensures.entered _ c.push_frame-2.new.stack.items _ _ (visit_spec c.in-Some-2.visit)
+    _ _ (c.in_ok-enter.ensures.files ∙ c.in_ok-push_file.ensures.files) c.in_ok-push_file.ensures.entered _ c.push_frame-2.new.stack.items _ _ (sorted_visit_spec c.in-Some-2.visit)
     c.in_ok-push_frame.ensures below.0 (sym c.if-not-has_children.ensures) below.1 below.2 c.in_ok-enter.ensures.entered way
 
 pub returns-clause-less_left : goal.returns-clause-less_left
 returns-clause-less_left g c =
     less_below c.args.stack.now.items c.args.directory (with_left c.args.directory c.in-Some.left) c.in-Some.child.now.0 c.in-Some.child.now.1 c.in-Some.left.now c.in-Some.ensures.cases.0 refl
-    _ _ c.push_frame-2.new.stack.items _ _ (visit_spec c.in-Some-2.visit) c.in_ok-push_frame.ensures c.in_ok-enter.ensures.entered
+    _ _ c.push_frame-2.new.stack.items _ _ (sorted_visit_spec c.in-Some-2.visit) c.in_ok-push_frame.ensures c.in_ok-enter.ensures.entered
