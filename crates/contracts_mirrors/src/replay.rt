@@ -1,9 +1,9 @@
-//! Callers of `jj_replay`.
+//! Callers of `jj_mirror`.
 ghost use Rattle.std.specs.Prelude.{IfErr, IfOk};
-ghost use Rattle.jj_replay.specs.Replays.{IsReplay, IsReplayError};
+ghost use Rattle.jj_mirror.specs.Replays.{IsReplay, IsReplayError};
 
+use jj_mirror::error::ReplayError;
 use jj_mirror::object_log::LogEntry;
-use jj_replay::error::ReplayError;
 use jj_trees::memory_backend::MemoryBackend;
 use std::alloc::Global;
 
@@ -12,5 +12,5 @@ pub fn replay(alloc: Global, entries: &[LogEntry]) -> Result<MemoryBackend, Repl
     ensures ok { IfOk result (IsReplay entries.now) }
     ensures error { IfErr result (IsReplayError entries.now) }
 {
-    jj_replay::replay::replay(alloc, entries)
+    jj_mirror::replay::replay(alloc, entries)
 }

@@ -12,4 +12,6 @@ mod record_tests;
 #[cfg(test)]
 mod records;
 #[cfg(test)]
+pub mod round_trips;
+#[cfg(test)]
 mod value_tests;

@@ -4,4 +4,8 @@
 #[cfg(test)]
 pub mod callers;
 #[cfg(test)]
+pub mod logs;
+#[cfg(test)]
 mod mirrored_tests;
+#[cfg(test)]
+mod replay_tests;

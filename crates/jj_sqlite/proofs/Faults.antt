@@ -15,10 +15,10 @@ use Rattle.jj_trees.specs.MemoryObjects.{MemoryBackendValue, objects_of}
 use Rattle.jj_mirror.specs.Entries.{LogEntryValue, entry_of, kind_name}
 use Rattle.jj_mirror.specs.Objects.{IsDigestTaken}
 use Rattle.jj_mirror.specs.declared.object_log.ObjectKind.{ObjectKind}
-use Rattle.jj_replay.specs.Replays.{IsReplay, IsReplayError}
-use Rattle.jj_replay.proofs.ReplayedAgain.{Contains-taken, item_at}
-use Rattle.jj_replay.specs.declared.error.ReplayError.{ReplayError}
-use Rattle.jj_replay.specs.declared.error.ReplayError.TheVariants as replay
+use Rattle.jj_mirror.specs.Replays.{IsReplay, IsReplayError}
+use Rattle.jj_mirror.proofs.ReplayedAgain.{Contains-taken, item_at}
+use Rattle.jj_mirror.specs.declared.error.ReplayError.{ReplayError}
+use Rattle.jj_mirror.specs.declared.error.ReplayError.TheVariants as replay
 use Rattle.jj_sqlite.specs.Inserts.{WasNewOrContains}
 use Rattle.jj_sqlite.specs.Opening.{IsOpenError, open_error, sqlite_error}
 use Rattle.jj_sqlite.specs.Rows.{IsReadError}

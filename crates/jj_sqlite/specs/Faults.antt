@@ -7,7 +7,7 @@ use Rattle.jj_backend.specs.Objects.{Object}
 use Rattle.jj_trees.specs.MemoryObjects.{digest_length, new_backend, objects_of}
 use Rattle.jj_mirror.specs.Entries.{LogEntryValue, entry_of}
 use Rattle.jj_mirror.specs.Objects.{IsObject, IsParentless, Stores}
-use Rattle.jj_replay.specs.Replays.{HasBytesOf, HasEntry, Names}
+use Rattle.jj_mirror.specs.Replays.{HasBytesOf, HasEntry, Names}
 use Rattle.jj_sqlite.specs.Rows.{HasDigest}
 use Rattle.jj_sqlite.specs.declared.error.OpenError.{OpenError}
 use Rattle.jj_sqlite.specs.declared.error.OpenError.TheVariants.{Memory, Sqlite, Gap, WrongObject, UnknownKind, Malformed, Backend}

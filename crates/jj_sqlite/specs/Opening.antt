@@ -12,9 +12,9 @@ use Rattle.sqlite.specs.State.{FailsToQuery, Shown}
 use Rattle.sqlite.specs.Held.{Held, state}
 use Rattle.jj_trees.specs.MemoryObjects.{MemoryBackendValue}
 use Rattle.jj_mirror.specs.Entries.{LogEntryValue}
-use Rattle.jj_replay.specs.Replays.{IsReplay, IsReplayError}
-use Rattle.jj_replay.specs.declared.error.ReplayError.{ReplayError}
-use Rattle.jj_replay.specs.declared.error.ReplayError.TheVariants as replay
+use Rattle.jj_mirror.specs.Replays.{IsReplay, IsReplayError}
+use Rattle.jj_mirror.specs.declared.error.ReplayError.{ReplayError}
+use Rattle.jj_mirror.specs.declared.error.ReplayError.TheVariants as replay
 use Rattle.jj_sqlite.specs.Crashes.{RunsAsIs}
 use Rattle.jj_sqlite.specs.Tables.{create_statement, select_statement}
 use Rattle.jj_sqlite.specs.Rows.{IsGoodRow, IsReadError}

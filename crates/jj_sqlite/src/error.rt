@@ -1,8 +1,8 @@
 //! Errors of opening a backend.
 use jj_backend::backend::BackendError;
 use jj_decode::error::Malformation;
+use jj_mirror::error::ReplayError;
 use jj_mirror::object_log::ObjectKind;
-use jj_replay::error::ReplayError;
 use sqlite::ErrorCode;
 use std::alloc::{AllocError, AllocFailed};
 use thiserror::Error;

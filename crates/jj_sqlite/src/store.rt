@@ -5,7 +5,7 @@ ghost use Rattle.sqlite.specs.Held.{state};
 ghost use Rattle.sqlite.specs.State.{HasCleanDisk};
 ghost use Rattle.jj_mirror.specs.Entries.{LogEntryValue};
 ghost use Rattle.jj_mirror.specs.Logs.{Keeps};
-ghost use Rattle.jj_replay.specs.Replays.{IsReplay};
+ghost use Rattle.jj_mirror.specs.Replays.{IsReplay};
 ghost use Rattle.jj_trees.specs.MemoryObjects.{digest_length};
 ghost use Rattle.jj_sqlite.specs.Inserts.{ContainsEntries, StoresEntries, WasNewOrContains};
 ghost use Rattle.jj_sqlite.specs.Tables.{HasOnlyRowsOf};
@@ -17,7 +17,7 @@ ghost use Rattle.jj_sqlite.specs.Closing.{CrashContains, FilesContain, IsBackup}
 use crate::error::OpenError;
 use crate::sqlite_log::SqliteLog;
 use jj_mirror::mirrored::Mirrored;
-use jj_replay::replay::replay;
+use jj_mirror::replay::replay;
 use jj_trees::memory_backend::MemoryBackend;
 use sqlite::{Alter, Connection, Error, FileStore};
 use sqlite_disk::{Disk, Files};

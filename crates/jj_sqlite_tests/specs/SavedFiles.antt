@@ -9,7 +9,7 @@ use Rattle.sqlite.specs.Files.{HoldsDatabase}
 use Rattle.sqlite.specs.Tree.{Trees}
 use Rattle.jj_backend.specs.Objects.{file_object}
 use Rattle.jj_mirror.specs.Entries.{LogEntryValue, entry_of}
-use Rattle.jj_replay.specs.Replays.{IsReplay}
+use Rattle.jj_mirror.specs.Replays.{IsReplay}
 use Rattle.jj_trees.specs.MemoryObjects.{MemoryBackendValue}
 use Rattle.jj_sqlite.specs.Crashes.{HasLogAfterCrash}
 

@@ -1,6 +1,6 @@
 use Rattle.std.proofs.Common.{List, length, subst}
 use Rattle.jj_mirror.specs.Entries.{LogEntryValue}
-use Rattle.jj_replay.specs.Replays.{IsReplay}
+use Rattle.jj_mirror.specs.Replays.{IsReplay}
 use Rattle.jj_sqlite.proofs.store.replay_log.Goals as goal
 
 pub returns-clause-entries : goal.returns-clause-entries

@@ -2,7 +2,7 @@ use Rattle.std.proofs.Common.{◌≡◌, refl, sym, subst}
 use Rattle.std.proofs.lemmas.List.Elements.{All-weaker}
 use Rattle.jj_backend.specs.Objects.{Object, file_object, symlink_object, copy_object, tree_object, commit_object, Objects}
 use Rattle.jj_mirror.specs.Entries.{LogEntryValue, entry_of}
-use Rattle.jj_replay.specs.Replays.{IsStored}
+use Rattle.jj_mirror.specs.Replays.{IsStored}
 use Rattle.jj_trees.specs.MemoryObjects.{objects_of}
 use Rattle.jj_sqlite.specs.Rows.{HasDigest}
 use Rattle.jj_sqlite.proofs.Faults.{has_fault}

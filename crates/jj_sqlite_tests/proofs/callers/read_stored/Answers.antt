@@ -1,6 +1,6 @@
 use Rattle.std.proofs.Common.{◌≡◌, Some, subst}
 use Rattle.jj_trees.specs.MemoryObjects.{MemoryBackendValue, objects_of}
-use Rattle.jj_replay_tests.proofs.ReadBack.{read_back}
+use Rattle.jj_mirror_tests.proofs.ReadBack.{read_back}
 use Rattle.jj_sqlite_tests.proofs.callers.read_stored.Goals as goal
 
 pub returns-in-Ok-read_commit : goal.returns-in-Ok-read_commit

@@ -1,0 +1,35 @@
+//! Replaying a log of written objects into an in-memory backend.
+ghost use Rattle.std.specs.Prelude.{◌≡◌, IfOk, IfErr};
+ghost use Rattle.jj_trees.specs.MemoryObjects.{MemoryBackendValue};
+ghost use Rattle.jj_mirror.specs.Replays.{IsReplay, IsReplayCause, IsReplayError};
+
+use crate::entry_writes::write_entry;
+use crate::error::ReplayError;
+use crate::object_log::LogEntry;
+use jj_backend::backend::{Commit, CopyHistory, Tree};
+use jj_decode::read_content::ReadContent;
+use jj_trees::memory_backend::MemoryBackend;
+use std::alloc::Global;
+
+/// Creates a backend with whole digests as ids and stores the object of each entry, in order. The
+/// error is that of the first entry that fails. Linear in the bytes of the entries, apart from the
+/// look-ups of ids.
+#[tactic(auto, using(crate::proofs::ReplayedEntries::replay_more, crate::proofs::ReplayedEntries::replay_error))]
+pub fn replay(alloc: Global, entries: &[LogEntry]) -> Result<MemoryBackend, ReplayError>
+    // The backend stores the objects of these entries under their ids, and no others besides the
+    // initial objects of a new backend.
+    ensures ok { IfOk result (IsReplay entries.now) }
+    ensures error { IfErr result (IsReplayError entries.now) }
+    // The reason and the offset of a malformed entry are those of decoding its bytes as its kind.
+    ensures cause { IfErr result (IsReplayCause ⟦<CopyHistory as ReadContent>⟧.errors
+        ⟦<Tree as ReadContent>⟧.errors ⟦<Commit as ReadContent>⟧.errors entries.now) }
+    // If a backend is the replay of these entries, replaying them fails only for memory.
+    ensures again { (backend : MemoryBackendValue) → IsReplay entries.now backend
+        → IfErr result (λ e. e ≡ ReplayError.Memory) }
+{
+    let mut backend = MemoryBackend::new(alloc)?;
+    for entry in entries {
+        write_entry(alloc, &mut backend, entry)?;
+    }
+    Ok(backend)
+}

@@ -1,5 +1,0 @@
-pub mod EntryErrors
-pub mod StoredObjects
-pub mod ReplayedEntries
-pub mod ReplayedAgain
-pub mod LoggedObjects

@@ -1,6 +1,0 @@
-use Rattle.jj_replay_tests.proofs.callers.replayed_files.Goals as goal
-
-pub returns : goal.returns
-returns c =
-    let after = c.log_files.ensures c.in_ok-store.ensures in
-    c.replay.ensures.again after.0 (rw (c.entries.ensures, c.log.ensures) after.1)

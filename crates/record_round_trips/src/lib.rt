@@ -1,4 +1,0 @@
-//! Proved round trips of each kind of record through its content.
-#![tactic(auto)]
-
-pub mod callers;
