@@ -14,7 +14,7 @@ use Rattle.jj_backend.specs.declared.backend.errors.BackendError.TheVariants.{Me
 use Rattle.jj_trees.specs.MemoryObjects.{MemoryBackendValue, objects_of, by_id, object_id, digest_length, IsStoreError, IsTakenByOther}
 use Rattle.jj_trees.specs.Signing.{IsCommitIdTaken}
 use Rattle.jj_mirror.specs.Entries.{LogEntryValue, entry_of}
-use Rattle.jj_mirror.specs.Logs.{IsLogFailure}
+use Rattle.jj_mirror.specs.Logs.{AppendsOnce, IsLogFailure}
 use Rattle.jj_mirror.specs.Objects.{Stores, IsDigestTaken}
 use Rattle.jj_mirror.proofs.WholeDigests.{whole_digest}
 
@@ -141,6 +141,39 @@ commit_memory b v e whole free failure =
       | inl memory ↦ memory
       | inr other ↦ absurd (free other.1)
     ]
+
+-- ---- an object that is stored: nothing is appended
+
+module _ {L : Type 0} (contains : L → List LogEntryValue → Type 0) (log : L) where
+  pub file_stored : (b : MemoryBackendValue) (v digest : List ℕ) → digest ≡ blake2b (bytes_content v) → by_id b.files digest ≡ Some v
+      → AppendsOnce contains log log (objects_of b) (file_object v) × ¬ (IsDigestTaken (objects_of b) (file_object v))
+  file_stored b v digest is there =
+      let here = subst (λ (d : List ℕ). by_id b.files d ≡ Some v) is there in
+      (inl (here, refl), file_free (objects_of b) v (inr here))
+
+  pub symlink_stored : (b : MemoryBackendValue) (v digest : List ℕ) → digest ≡ blake2b (string_content v) → by_id b.symlinks digest ≡ Some v
+      → AppendsOnce contains log log (objects_of b) (symlink_object v) × ¬ (IsDigestTaken (objects_of b) (symlink_object v))
+  symlink_stored b v digest is there =
+      let here = subst (λ (d : List ℕ). by_id b.symlinks d ≡ Some v) is there in
+      (inl (here, refl), symlink_free (objects_of b) v (inr here))
+
+  pub copy_stored : (b : MemoryBackendValue) (v : CopyHistoryValue) (digest : List ℕ) → digest ≡ blake2b (copy_history_content v) → by_id b.copies digest ≡ Some v
+      → AppendsOnce contains log log (objects_of b) (copy_object v) × ¬ (IsDigestTaken (objects_of b) (copy_object v))
+  copy_stored b v digest is there =
+      let here = subst (λ (d : List ℕ). by_id b.copies d ≡ Some v) is there in
+      (inl (here, refl), copy_free (objects_of b) v (inr here))
+
+  pub tree_stored : (b : MemoryBackendValue) (v : Entries) (digest : List ℕ) → digest ≡ blake2b (tree_content v) → by_id b.trees digest ≡ Some v
+      → AppendsOnce contains log log (objects_of b) (tree_object v) × ¬ (IsDigestTaken (objects_of b) (tree_object v))
+  tree_stored b v digest is there =
+      let here = subst (λ (d : List ℕ). by_id b.trees d ≡ Some v) is there in
+      (inl (here, refl), tree_free (objects_of b) v (inr here))
+
+  pub commit_stored : (b : MemoryBackendValue) (v : CommitValue) (digest : List ℕ) → digest ≡ blake2b (commit_content v) → by_id b.commits digest ≡ Some v
+      → AppendsOnce contains log log (objects_of b) (commit_object v) × ¬ (IsDigestTaken (objects_of b) (commit_object v))
+  commit_stored b v digest is there =
+      let here = subst (λ (d : List ℕ). by_id b.commits d ≡ Some v) is there in
+      (inl (here, refl), commit_free (objects_of b) v (inr here))
 
 -- ---- a failed test, when nothing was logged
 

@@ -6,3 +6,4 @@ pub mod StoredObjects
 pub mod ReplayedEntries
 pub mod ReplayedAgain
 pub mod LoggedObjects
+pub mod LoggedOnce

@@ -35,12 +35,28 @@ kept_ids old new id (copy_object v) adds = ids_of old new _ adds.1 (refl, refl, 
 kept_ids old new id (tree_object v) adds = ids_of old new _ adds.1 (refl, refl, refl, refl)
 kept_ids old new id (commit_object v) adds = ids_of old new _ adds.1 (refl, refl, refl, refl)
 
+-- the new backend has the ids of a new one
+pub adds_ids : (entries : List LogEntryValue) (old new : MemoryBackendValue) (id : List ℕ) (object : Object) → IsReplay entries old → Adds old new id object
+    → new ≡ record (new_backend digest_length) { files = new.files; symlinks = new.symlinks; copies = new.copies; trees = new.trees; commits = new.commits }
+adds_ids entries old new id object replay adds =
+    let same = kept_ids old new id object adds in
+    λ i. record {
+      id_length = (same.0 ∙ ap (λ (b : MemoryBackendValue). b.id_length) replay.ids) i;
+      root_commit_id = (same.1 ∙ ap (λ (b : MemoryBackendValue). b.root_commit_id) replay.ids) i;
+      root_change_id = (same.2 ∙ ap (λ (b : MemoryBackendValue). b.root_change_id) replay.ids) i;
+      empty_tree_id = (same.3 ∙ ap (λ (b : MemoryBackendValue). b.empty_tree_id) replay.ids) i;
+      files = new.files;
+      symlinks = new.symlinks;
+      copies = new.copies;
+      trees = new.trees;
+      commits = new.commits;
+    }
+
 pub replay_push : (entries : List LogEntryValue) (old new : MemoryBackendValue) (entry : LogEntryValue) → IsReplay entries old → AddsEntry old new entry
     → IsReplay (entries ++ entry ∷ []) new
 replay_push entries old new entry replay adds =
     let object = adds.0 in
     let keeps = adds_keeps old new entry.id object adds.4 in
-    let same = kept_ids old new entry.id object adds.4 in
     record {
       stored = All-push (IsStored (objects_of new)) entries entry
           (All-weaker (IsStored (objects_of old)) (IsStored (objects_of new)) (λ e s. (s.0, s.1, s.2, s.3, keeps e.id s.0 s.4)) entries replay.stored)
@@ -58,17 +74,7 @@ replay_push entries old new entry replay adds =
               ap (λ (e : LogEntryValue). e.id) (sym is) ∙ new_one.0,
             )
       ];
-      ids = λ i. record {
-        id_length = (same.0 ∙ ap (λ (b : MemoryBackendValue). b.id_length) replay.ids) i;
-        root_commit_id = (same.1 ∙ ap (λ (b : MemoryBackendValue). b.root_commit_id) replay.ids) i;
-        root_change_id = (same.2 ∙ ap (λ (b : MemoryBackendValue). b.root_change_id) replay.ids) i;
-        empty_tree_id = (same.3 ∙ ap (λ (b : MemoryBackendValue). b.empty_tree_id) replay.ids) i;
-        files = new.files;
-        symlinks = new.symlinks;
-        copies = new.copies;
-        trees = new.trees;
-        commits = new.commits;
-      };
+      ids = adds_ids entries old new entry.id object replay adds.4;
     }
 
 -- the entries up to an index, and the one there

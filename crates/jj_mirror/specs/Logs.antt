@@ -1,7 +1,7 @@
 -- The effects of a write on a log of written objects, and the errors of a logged write.
--- Cited by contracts of public items: Appends, IsCommitFailure, IsLoggedError, IsLogFailure, Keeps,
--- Logs, MayFailToWrite.
-use Rattle.std.specs.Prelude.{◌≡◌, ◌≢◌, ◌⊎◌, ℕ, List, [], ◌∷◌, ◌++◌, Option, Result}
+-- Cited by contracts of public items: Appends, AppendsOnce, IsCommitFailure, IsLoggedError,
+-- IsLogFailure, Keeps, Logs, MayFailToWrite, WithEntries, WithEntry.
+use Rattle.std.specs.Prelude.{◌≡◌, ◌≢◌, ◌⊎◌, ℕ, List, [], ◌∷◌, ◌++◌, Contains, Option, Result}
 use Rattle.jj_files.specs.declared.file_util.errors.SourceKind.TheVariants.{Other as OtherKind}
 use Rattle.jj_backend.specs.Errors.{IsOtherOf}
 use Rattle.jj_backend.specs.Objects.{FailsToSign, Object, Objects, commit_object, IsSigned}
@@ -10,7 +10,18 @@ use Rattle.jj_backend.specs.declared.backend.errors.BackendError.{BackendError}
 use Rattle.jj_backend.specs.declared.backend.errors.BackendError.TheVariants.{Memory}
 use Rattle.jj_backend.specs.declared.signing.SignError.{SignError}
 use Rattle.jj_mirror.specs.Entries.{LogEntryValue, entry_of}
-use Rattle.jj_mirror.specs.Objects.{IsDigestTaken, IsParentless, IsReplayable}
+use Rattle.jj_mirror.specs.Objects.{HasObject, IsDigestTaken, IsParentless, IsReplayable}
+
+-- P holds of these entries if they contain the entry, else of them and the entry at the end
+abbrev pub WithEntry : (List LogEntryValue → Type 0) → List LogEntryValue → LogEntryValue → Type 0
+WithEntry P entries entry = (Contains entries entry × P entries)
+    ⊎ (¬ (Contains entries entry) × P (entries ++ entry ∷ []))
+
+-- P holds of these entries and, at the end, those of the list that they lack, each once
+abbrev pub WithEntries : (List LogEntryValue → Type 0) → List LogEntryValue → List LogEntryValue
+    → Type 0
+WithEntries P entries [] = P entries
+WithEntries P entries (entry ∷ more) = WithEntry (λ all. WithEntries P all more) entries entry
 
 module _ {L : Type 0} (contains : L → List LogEntryValue → Type 0) (old new : L) where
   -- the new log contains the entries of the old one and then this entry
@@ -22,17 +33,23 @@ module _ {L : Type 0} (contains : L → List LogEntryValue → Type 0) (old new 
   abbrev pub Keeps : Type 0
   Keeps = (entries : List LogEntryValue) → contains old entries → contains new entries
 
-  -- The new log contains the entries of the old one and then that of the object, which replay takes
-  -- after those of the objects of the backend. No write appends in any other way.
+  -- if the backend stores the object, the log is unchanged, else the object's entry is appended
+  abbrev pub AppendsOnce : Objects → Object → Type 0
+  AppendsOnce objects object = (HasObject objects object × (new ≡ old))
+      ⊎ (¬ (HasObject objects object) × Appends (entry_of object))
+
+  -- The object's entry is appended, unless the backend stores the object, and replay takes it after
+  -- those of the objects of the backend. No write appends in any other way.
   abbrev pub Logs : Objects → Object → Type 0
-  Logs objects object = Appends (entry_of object) × IsReplayable objects object
+  Logs objects object = AppendsOnce objects object × IsReplayable objects object
 
   -- e is an error of logging an object, and the log keeps its entries: out of memory, an error of
-  -- the log, or Other for a digest that a different object has
+  -- the log for an object that is not stored, or Other for a digest that a different object has
   abbrev pub IsLogFailure : (L → LogEntryValue → BackendError → Type 0) → Objects → Object
       → BackendError → Type 0
   IsLogFailure log_may_fail objects object e =
-      Keeps × ((e ≡ Memory) ⊎ log_may_fail old (entry_of object) e
+      Keeps × ((e ≡ Memory)
+      ⊎ (¬ (HasObject objects object) × log_may_fail old (entry_of object) e)
       ⊎ (IsOtherOf OtherKind e × IsDigestTaken objects object))
 
   -- e is an error of a write of an object: of logging it, or out of memory once it is logged
@@ -54,10 +71,10 @@ module _ {L : Type 0} (contains : L → List LogEntryValue → Type 0) (old new 
       × IsSigned may_sign signer contents stored
       × IsLoggedError log_may_fail objects (commit_object stored) e))
 
--- The errors of a logged write: out of memory, those of the log, and Other for a commit without
--- parents or a digest that a different object has.
+-- The errors of a logged write: out of memory, those of the log for an object that is not stored,
+-- and Other for a commit without parents or a digest that a different object has.
 abbrev pub MayFailToWrite : (LogEntryValue → BackendError → Type 0) → Objects → Object
     → BackendError → Type 0
 MayFailToWrite log_may_fail objects object e =
-    (e ≡ Memory) ⊎ log_may_fail (entry_of object) e
+    (e ≡ Memory) ⊎ (¬ (HasObject objects object) × log_may_fail (entry_of object) e)
     ⊎ (IsOtherOf OtherKind e × (IsParentless object ⊎ IsDigestTaken objects object))

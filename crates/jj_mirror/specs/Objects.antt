@@ -1,5 +1,5 @@
 -- The objects of a backend by their digests, and the objects whose entries replay takes.
--- Cited by contracts of public items: IsDigestTaken, IsObject, IsReplayable, Stores.
+-- Cited by contracts of public items: HasObject, IsDigestTaken, IsObject, IsReplayable, Stores.
 use Rattle.std.specs.Prelude.{◌≡◌, ◌≢◌, ⊤, [], List, ℕ, Some}
 use Rattle.std.specs.Str.{IsUtf8}
 use Rattle.jj_backend.specs.Contents.{IsCopyHistory, IsCommit}
@@ -14,6 +14,10 @@ Stores objects id (symlink_object target) = objects.symlinks id ≡ Some target
 Stores objects id (copy_object history) = objects.copies id ≡ Some history
 Stores objects id (tree_object entries) = objects.trees id ≡ Some entries
 Stores objects id (commit_object c) = objects.commits id ≡ Some c
+
+-- the object is stored under its digest
+abbrev pub HasObject : Objects → Object → Type 0
+HasObject objects object = Stores objects (entry_of object).id object
 
 -- strings are UTF-8, and records are valid values
 abbrev pub IsObject : Object → Type 0

@@ -12,7 +12,7 @@ ghost use Rattle.jj_mirror.specs.Entries.{entry_of};
 ghost use Rattle.jj_mirror.specs.Logs.{Logs, IsLogFailure, IsLoggedError, IsCommitFailure};
 
 use crate::digests::{digest, file_digest, string_digest};
-use crate::free_digests::{check_commit, check_copy, check_file, check_symlink, check_tree};
+use crate::free_digests::{has_commit, has_copy, has_file, has_symlink, has_tree};
 use crate::object_log::{ObjectKind, ObjectLog};
 use jj_backend::backend::{
     Backend, BackendResult, ChangeId, Commit, CommitId, CopyHistory, CopyId, CopyRecord, FileId,
@@ -25,9 +25,10 @@ use std::alloc::Global;
 
 /// A backend in memory, with whole digests as ids, beside a log of its writes. A write appends an
 /// entry to the log and then writes to the backend, so that the log has an entry for each object
-/// whose write succeeded. An entry is appended only if `replay` takes it: a commit without parents,
-/// or an object whose digest a different object has, fails with `Other` before it is logged. Reads
-/// are the backend's.
+/// whose write succeeded. It appends none if the backend stores the object already, as any backend
+/// does the empty tree: the test is one look-up by digest. An entry is appended only if `replay`
+/// takes it: a commit without parents, or an object whose digest a different object has, fails with
+/// `Other` before it is logged. Reads are the backend's.
 ///
 /// If the log fails, the write fails with the log's error, and the backend is unchanged. If memory
 /// runs out after that, the write fails with `Memory`, and the log keeps the entry.
@@ -77,7 +78,7 @@ impl<L: ObjectLog> Mirrored<L> {
         (backend, log)
     }
 
-    // Appends the entry of a file, unless a different one has its digest.
+    // Appends the entry of a file, unless it is stored. Fails if a different one has its digest.
     fn log_file(&mut self, alloc: Global, contents: &[u8]) -> BackendResult<()>
         ensures ok { OnOk result (Logs L.contains self.old.log self.new.log
             (objects_of self.old.backend) (file_object contents.now)) }
@@ -86,11 +87,15 @@ impl<L: ObjectLog> Mirrored<L> {
         ensures backend { self.new.backend ≡ self.old.backend }
     {
         let id = file_digest(contents);
-        check_file(alloc, &self.backend, &id, contents)?;
+        let is_stored = has_file(alloc, &self.backend, &id, contents)?;
+        if is_stored {
+            return Ok(());
+        }
         self.log.append(alloc, ObjectKind::File, &id, contents)
     }
 
-    // Appends the entry of a symbolic link, unless a different one has its digest.
+    // Appends the entry of a symbolic link, unless it is stored. Fails if a different one has its
+    // digest.
     fn log_symlink(&mut self, alloc: Global, target: &str) -> BackendResult<()>
         ensures ok { OnOk result (Logs L.contains self.old.log self.new.log
             (objects_of self.old.backend) (symlink_object target.now)) }
@@ -99,12 +104,16 @@ impl<L: ObjectLog> Mirrored<L> {
         ensures backend { self.new.backend ≡ self.old.backend }
     {
         let id = string_digest(target.as_bytes());
-        check_symlink(alloc, &self.backend, &id, target)?;
+        let is_stored = has_symlink(alloc, &self.backend, &id, target)?;
+        if is_stored {
+            return Ok(());
+        }
         self.log
             .append(alloc, ObjectKind::Symlink, &id, target.as_bytes())
     }
 
-    // Appends the entry of a copy history, unless a different one has its digest.
+    // Appends the entry of a copy history, unless it is stored. Fails if a different one has its
+    // digest.
     fn log_copy(&mut self, alloc: Global, copy: &CopyHistory) -> BackendResult<()>
         ensures ok { OnOk result (Logs L.contains self.old.log self.new.log
             (objects_of self.old.backend) (copy_object copy.now)) }
@@ -114,11 +123,14 @@ impl<L: ObjectLog> Mirrored<L> {
     {
         let bytes = content_of(alloc, copy)?;
         let id = digest(&bytes);
-        check_copy(alloc, &self.backend, &id, copy)?;
+        let is_stored = has_copy(alloc, &self.backend, &id, copy)?;
+        if is_stored {
+            return Ok(());
+        }
         self.log.append(alloc, ObjectKind::Copy, &id, &bytes)
     }
 
-    // Appends the entry of a tree, unless a different one has its digest.
+    // Appends the entry of a tree, unless it is stored. Fails if a different one has its digest.
     fn log_tree(&mut self, alloc: Global, tree: &Tree) -> BackendResult<()>
         ensures ok { OnOk result (Logs L.contains self.old.log self.new.log
             (objects_of self.old.backend) (tree_object tree.now)) }
@@ -128,11 +140,15 @@ impl<L: ObjectLog> Mirrored<L> {
     {
         let bytes = content_of(alloc, tree)?;
         let id = digest(&bytes);
-        check_tree(alloc, &self.backend, &id, tree)?;
+        let is_stored = has_tree(alloc, &self.backend, &id, tree)?;
+        if is_stored {
+            return Ok(());
+        }
         self.log.append(alloc, ObjectKind::Tree, &id, &bytes)
     }
 
-    // Appends the entry of a commit in its stored form, unless a different one has its digest.
+    // Appends the entry of a commit in its stored form, unless it is stored. Fails if a different
+    // one has its digest.
     fn log_commit(&mut self, alloc: Global, commit: &Commit) -> BackendResult<()>
         requires { commit.now.parents ≢ [] }
         ensures ok { OnOk result (Logs L.contains self.old.log self.new.log
@@ -143,7 +159,10 @@ impl<L: ObjectLog> Mirrored<L> {
     {
         let bytes = content_of(alloc, commit)?;
         let id = digest(&bytes);
-        check_commit(alloc, &self.backend, &id, commit)?;
+        let is_stored = has_commit(alloc, &self.backend, &id, commit)?;
+        if is_stored {
+            return Ok(());
+        }
         self.log.append(alloc, ObjectKind::Commit, &id, &bytes)
     }
 

@@ -3,7 +3,7 @@ ghost use Rattle.std.specs.Prelude.{◌≡◌, ◌≢◌, ◌⊎◌, ◌++◌, [
 ghost use Rattle.jj_backend.specs.Errors.{IsOtherOf};
 ghost use Rattle.jj_backend.specs.Objects.{commit_object};
 ghost use Rattle.jj_mirror.specs.Entries.{entry_of};
-ghost use Rattle.jj_mirror.specs.Objects.{IsDigestTaken};
+ghost use Rattle.jj_mirror.specs.Objects.{HasObject, IsDigestTaken};
 ghost use Rattle.jj_trees.specs.MemoryObjects.{objects_of};
 
 use jj_backend::backend::{Backend, BackendError, BackendResult, Commit, NoSigner};
@@ -20,13 +20,17 @@ pub fn written_commit(
 ) -> BackendResult<Commit>
     ensures read { IfOk result (λ read. read ≡ commit) }
     ensures parents { OnOk result (commit.parents ≢ []) }
-    ensures logged { OnOk result (store.new.log
-        ≡ store.old.log ++ entry_of (commit_object commit) ∷ []) }
+    // The log is unchanged if the commit was stored already; else its entry is appended.
+    ensures logged { OnOk result (let object = commit_object commit in
+        (HasObject (objects_of store.old.backend) object × (store.new.log ≡ store.old.log))
+        ⊎ (¬ (HasObject (objects_of store.old.backend) object)
+        × (store.new.log ≡ store.old.log ++ entry_of object ∷ []))) }
     // Out of memory, or the commit has no parents, or a different commit has its digest.
     ensures error { IfErr result (λ e. (e ≡ BackendError.Memory)
         ⊎ (IsOtherOf SourceKind.Other e × ((commit.parents ≡ [])
         ⊎ IsDigestTaken (objects_of store.old.backend) (commit_object commit)))) }
 {
-    let (id, _) = store.write_commit(alloc, commit, None::<&mut NoSigner>)?;
+    let stored = store.write_commit(alloc, commit, None::<&mut NoSigner>)?;
+    let (id, _) = stored;
     store.read_commit(alloc, &id)
 }

@@ -1,8 +1,8 @@
 //! Tests of a backend beside a log: the logged entries by value, and a log that fails.
 use crate::callers::written_commit;
 use jj_backend::backend::{
-    Backend, BackendError, BackendResult, ChangeId, Commit, FileId, NoSigner, SigningFn, Tree,
-    make_root_commit,
+    Backend, BackendError, BackendResult, ChangeId, Commit, FileId, NoSigner, SigningFn, SymlinkId,
+    Tree, TreeValue, make_root_commit,
 };
 use jj_backend::signing::SignResult;
 use jj_content::content_hash::{blake2b_hash, content_of};
@@ -12,7 +12,7 @@ use jj_ids::object_id::ObjectId;
 use jj_mirror::memory_log::MemoryLog;
 use jj_mirror::mirrored::Mirrored;
 use jj_mirror::object_log::{LogEntry, ObjectKind, ObjectLog};
-use jj_paths::repo_path::RepoPath;
+use jj_paths::repo_path::{RepoPath, RepoPathComponentBuf};
 use jj_trees::memory_backend::MemoryBackend;
 use std::alloc::Global;
 
@@ -98,11 +98,23 @@ fn is_entry(entry: &LogEntry, kind: ObjectKind, id: &[u8], bytes: &[u8]) -> bool
     entry.kind == kind && entry.id.as_slice() == id && entry.bytes.as_slice() == bytes
 }
 
+// A tree with one entry, a link named "l".
+fn tree_of_link(alloc: Global, link: SymlinkId) -> BackendResult<Tree> {
+    let name = match RepoPathComponentBuf::new(String::from_str(alloc, "l")?) {
+        Ok(name) => name,
+        Err(_) => return Err(BackendError::Memory),
+    };
+    match Tree::from_entries(vec![in alloc; (name, TreeValue::Symlink(link))]?) {
+        Ok(tree) => Ok(tree),
+        Err(_) => Err(BackendError::Memory),
+    }
+}
+
 // A file, a link and a tree: the entries have the ids of the objects and their bytes.
 fn logs_objects(alloc: Global, store: &mut Store) -> BackendResult<bool> {
     let file = store.write_file(alloc, RepoPath::root(), b"abc")?;
     let link = store.write_symlink(alloc, RepoPath::root(), "to")?;
-    let tree = Tree::default(alloc);
+    let tree = tree_of_link(alloc, link.clone()?)?;
     let tree_id = store.write_tree(alloc, RepoPath::root(), &tree)?;
     let content = content_of(alloc, &tree)?;
     let is_logged = match store.log().entries() {
@@ -115,6 +127,24 @@ fn logs_objects(alloc: Global, store: &mut Store) -> BackendResult<bool> {
     };
     let is_read = store.read_file(alloc, RepoPath::root(), &file)?.as_slice() == b"abc".as_slice();
     Ok(is_logged && is_read)
+}
+
+// An object that is stored is not logged again, and neither is the empty tree.
+fn logs_once(alloc: Global, store: &mut Store) -> BackendResult<bool> {
+    let file = store.write_file(alloc, RepoPath::root(), b"abc")?;
+    let file_again = store.write_file(alloc, RepoPath::root(), b"abc")?;
+    let link = store.write_symlink(alloc, RepoPath::root(), "to")?;
+    let link_again = store.write_symlink(alloc, RepoPath::root(), "to")?;
+    store.write_tree(alloc, RepoPath::root(), &Tree::default(alloc))?;
+    Ok(file == file_again && link == link_again && store.log().entries().len() == 2)
+}
+
+fn logs_commit_once(alloc: Global, store: &mut Store) -> BackendResult<bool> {
+    let commit = child_of_root(alloc, store)?;
+    let again = commit.clone()?;
+    let (id, _) = store.write_commit(alloc, commit, None::<&mut NoSigner>)?;
+    let (id_again, _) = store.write_commit(alloc, again, None::<&mut NoSigner>)?;
+    Ok(id == id_again && store.log().entries().len() == 1)
 }
 
 // The stored form of a signed commit is logged, with its digest as the id.
@@ -153,7 +183,8 @@ fn id_of_file(alloc: Global, bytes: &[u8]) -> BackendResult<FileId> {
     backend.write_file(alloc, RepoPath::root(), bytes)
 }
 
-// A failed log fails the write with its error, and the object is not stored.
+// A failed log fails the write with its error, and the object is not stored. It does not fail the
+// write of an object that is stored.
 fn fails_with_log(alloc: Global, store: &mut Mirrored<FullLog>) -> BackendResult<bool> {
     let first = store.write_file(alloc, RepoPath::root(), b"1")?;
     let failed = match store.write_file(alloc, RepoPath::root(), b"2") {
@@ -165,8 +196,9 @@ fn fails_with_log(alloc: Global, store: &mut Mirrored<FullLog>) -> BackendResult
         Err(BackendError::ObjectNotFound { .. }) => true,
         _ => false,
     };
-    let is_read = store.read_file(alloc, RepoPath::root(), &first)?.as_slice() == b"1".as_slice();
-    Ok(failed && is_absent && is_read && store.log().entries.entries().len() == 1)
+    let again = store.write_file(alloc, RepoPath::root(), b"1")?;
+    let is_read = store.read_file(alloc, RepoPath::root(), &again)?.as_slice() == b"1".as_slice();
+    Ok(failed && is_absent && is_read && first == again && store.log().entries.entries().len() == 1)
 }
 
 // A backend with ids of 20 bytes is returned: an entry has the whole digest.
@@ -181,6 +213,16 @@ fn returns_short_ids(alloc: Global) -> BackendResult<bool> {
 fn logs(alloc: Global) -> BackendResult<bool> {
     let mut store = new_store(alloc)?;
     logs_objects(alloc, &mut store)
+}
+
+fn logs_each_once(alloc: Global) -> BackendResult<bool> {
+    let mut store = new_store(alloc)?;
+    logs_once(alloc, &mut store)
+}
+
+fn logs_each_commit_once(alloc: Global) -> BackendResult<bool> {
+    let mut store = new_store(alloc)?;
+    logs_commit_once(alloc, &mut store)
 }
 
 fn logs_commits(alloc: Global) -> BackendResult<bool> {
@@ -208,6 +250,8 @@ fn objects_are_logged(rt: HostRuntime) {
     assert!(rt; holds(&rt, logs_commits));
     assert!(rt; holds(&rt, stores_commits));
     assert!(rt; holds(&rt, returns_short_ids));
+    assert!(rt; holds(&rt, logs_each_once));
+    assert!(rt; holds(&rt, logs_each_commit_once));
 }
 
 #[test]

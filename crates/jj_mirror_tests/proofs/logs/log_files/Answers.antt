@@ -1,10 +1,50 @@
+use Rattle.std.proofs.Common.{Vec, Global, ◌+◌, ◌⊎◌, ℕ, List, [], ◌∷◌, inl, inr, take, subst}
+use Rattle.std.proofs.lemmas.List.{take_all}
+use Rattle.jj_backend.specs.Objects.{file_object}
+use Rattle.jj_mirror.specs.Entries.{LogEntryValue, entry_of}
+use Rattle.jj_mirror.specs.Logs.{WithEntries, WithEntry}
+use Rattle.jj_mirror.specs.Replays.{IsReplay}
+use Rattle.jj_mirror.proofs.LoggedOnce.{HasReplay, WithEntries-map, WithEntries-push, WithEntries-split}
+use Rattle.jj_mirror_tests.proofs.LoggedFiles.{entries_of, on_err, one_more}
 use Rattle.jj_mirror_tests.proofs.logs.log_files.Goals as goal
 
 pub loop-contents-preserved : goal.loop-contents-preserved
-loop-contents-preserved c = λ replay. c.in_ok-log_file.ensures.ok (c.loop-contents.invariant replay)
+loop-contents-preserved g c = λ entries had replay.
+    let i = c.loop-contents.contents-index in
+    let files = c.args.files.now in
+    let old = c.loop-contents.store in
+    let new = c.log_file.new.store in
+    let P : List LogEntryValue → Type 0 = λ all. g.L.ObjectLog.contains new.log all × IsReplay all new.backend in
+    let O : List LogEntryValue → Type 0 = λ all. g.L.ObjectLog.contains old.log all × IsReplay all old.backend in
+    let step = λ (all : List LogEntryValue) (both : O all). subst (λ (bytes : List ℕ). WithEntry P all (entry_of (file_object bytes))) c.deref.ensures.value (c.in_ok-log_file.ensures.ok all both.0 both.1) in
+    subst (WithEntries P entries) (one_more files i c.contents-item.result c.loop-contents-test.true c.contents-item.is)
+    (WithEntries-push P (entries_of (take i files)) entries (entry_of (file_object c.contents-item.result.items))
+    (WithEntries-map O (λ all. WithEntry P all (entry_of (file_object c.contents-item.result.items))) step (entries_of (take i files)) entries (c.loop-contents.invariant entries had replay)))
 
-pub returns-in_err-log_file : goal.returns-in_err-log_file
-returns-in_err-log_file c = λ replay. c.in_err-log_file.ensures.err (c.loop-contents.invariant replay)
+pub returns-in_err-log_file-clause-err : goal.returns-in_err-log_file-clause-err
+returns-in_err-log_file-clause-err g c =
+    let i = c.loop-contents.contents-index in
+    let files = c.args.files.now in
+    let old = c.loop-contents.store in
+    let new = c.log_file.new.store in
+    let entry = entry_of (file_object c.contents-item.result.items) in
+    let P : List LogEntryValue → Type 0 = λ all. g.L.ObjectLog.contains new.log all × HasReplay all in
+    let O : List LogEntryValue → Type 0 = λ all. g.L.ObjectLog.contains old.log all × IsReplay all old.backend in
+    on_err c.from_residual.result (λ entries had replay.
+    let step : (all : List LogEntryValue) → O all → P all ⊎ WithEntry P all entry = λ all both. elim (c.in_err-log_file.ensures.err all both.0 both.1) [
+      | inl kept ↦ inl (kept, (old.backend, both.1))
+      | inr more ↦ inr (subst (λ (bytes : List ℕ). WithEntry P all (entry_of (file_object bytes))) c.deref.ensures.value more)
+    ] in
+    elim (WithEntries-split P (λ all. WithEntry P all entry) (entries_of (take i files)) entries (WithEntries-map O (λ all. P all ⊎ WithEntry P all entry) step (entries_of (take i files)) entries (c.loop-contents.invariant entries had replay))) [
+      | inl kept ↦ (i, kept)
+      | inr more ↦ (
+        i + 1,
+        subst (WithEntries P entries) (one_more files i c.contents-item.result c.loop-contents-test.true c.contents-item.is) (WithEntries-push P (entries_of (take i files)) entries entry more),
+      )
+    ])
 
-pub returns : goal.returns
-returns c = λ replay. (c.loop-contents.store.backend, c.loop-contents.invariant replay)
+pub returns-clause-ok : goal.returns-clause-ok
+returns-clause-ok g c = λ entries had replay.
+    let now = c.loop-contents.store in
+    subst (λ (l : List (Vec ℕ Global)). WithEntries (λ all. g.L.ObjectLog.contains now.log all × IsReplay all now.backend) entries (entries_of l))
+    (take_all c.loop-contents.contents-index c.args.files.now c.loop-contents-test.false) (c.loop-contents.invariant entries had replay)

@@ -1,5 +1,10 @@
+use Rattle.std.proofs.Common.{List, take}
+use Rattle.jj_mirror.specs.Entries.{LogEntryValue}
+use Rattle.jj_mirror.specs.Logs.{WithEntries}
 use Rattle.jj_mirror.specs.Replays.{IsReplay}
+use Rattle.jj_mirror_tests.proofs.LoggedFiles.{entries_of}
 use Rattle.jj_mirror_tests.proofs.logs.log_files.Given as goal
 
 abbrev pub invariant-loop-contents : goal.invariant-loop-contents
-invariant-loop-contents l = IsReplay l.fn.store.log l.fn.store.backend → IsReplay l.store.log l.store.backend
+invariant-loop-contents g l = (entries : List LogEntryValue) → g.L.ObjectLog.contains l.fn.store.log entries → IsReplay entries l.fn.store.backend
+    → WithEntries (λ all. g.L.ObjectLog.contains l.store.log all × IsReplay all l.store.backend) entries (entries_of (take l.contents-index l.files))

@@ -1,27 +1,35 @@
-use Rattle.std.proofs.Common.{List, inl, inr, refl, sym, subst}
-use Rattle.jj_backend.specs.Objects.{commit_object}
-use Rattle.jj_trees.specs.MemoryObjects.{MemoryBackendValue}
-use Rattle.jj_mirror.specs.Entries.{LogEntryValue}
+use Rattle.std.proofs.Common.{◌≡◌, List, inl, inr, refl, sym, subst}
+use Rattle.jj_backend.specs.Objects.{Object, commit_object}
+use Rattle.jj_backend.specs.Records.{CommitValue}
+use Rattle.jj_trees.specs.MemoryObjects.{MemoryBackendValue, objects_of}
+use Rattle.jj_mirror.specs.Entries.{LogEntryValue, entry_of}
+use Rattle.jj_mirror.specs.Logs.{Logs}
 use Rattle.jj_mirror.specs.Replays.{IsReplay}
-use Rattle.jj_mirror.proofs.LoggedObjects.{logged_replay}
+use Rattle.jj_mirror.proofs.LoggedOnce.{HasReplay, appended, only_logged}
+use Rattle.jj_mirror_tests.proofs.LoggedFiles.{with_one}
 use Rattle.jj_mirror_tests.proofs.logs.log_replayable.Goals as goal
 
-abbrev HasReplay : List LogEntryValue → Type 0
-HasReplay entries = (backend : MemoryBackendValue) × IsReplay entries backend
+-- a log that was written has a replay
+logged : (log new_log : List LogEntryValue) (old : MemoryBackendValue) (commit : CommitValue) → IsReplay log old
+    → Logs (λ (l entries : List LogEntryValue). l ≡ entries) log new_log (objects_of old) (commit_object commit) → HasReplay new_log
+logged log new_log old commit replay logs =
+    with_one (λ all. (new_log ≡ all) × HasReplay all) (HasReplay new_log) (λ all both. subst HasReplay (sym both.0) both.1) log (entry_of (commit_object commit))
+    (only_logged (λ all. new_log ≡ all) log old (commit_object commit) replay logs.1 (λ e. cc)
+    (appended (λ (l entries : List LogEntryValue). l ≡ entries) log new_log log (objects_of old) (commit_object commit) refl logs.0))
 
 pub returns : goal.returns
 returns c = λ replay.
     let old = c.args.store.now in
-    let fits = c.in_ok-stored.ensures.logged in
-    subst HasReplay (sym (fits.0 old.log refl)) (logged_replay old.log old.backend (commit_object c.in_ok-stored.stored.1) replay fits.1)
+    logged old.log c.write_commit.new.self.log old.backend c.in_ok-stored.stored.1 replay c.in_ok-stored.ensures.logged
 
 pub returns-in_err-stored : goal.returns-in_err-stored
 returns-in_err-stored c = λ replay.
     let old = c.args.store.now in
+    let new = c.write_commit.new.self in
     elim c.in_err-stored.ensures.error [
-      | inl kept ↦ (old.backend, subst (λ (l : List LogEntryValue). IsReplay l old.backend) (sym (kept.0 old.log refl)) replay)
+      | inl kept ↦ subst HasReplay (sym (kept.0 old.log refl)) (old.backend, replay)
       | inr rest ↦ elim rest.1.2 [
-        | inl kept ↦ (old.backend, subst (λ (l : List LogEntryValue). IsReplay l old.backend) (sym (kept.0 old.log refl)) replay)
-        | inr logged ↦ subst HasReplay (sym (logged.0.0 old.log refl)) (logged_replay old.log old.backend (commit_object rest.1.0) replay logged.0.1)
+        | inl kept ↦ subst HasReplay (sym (kept.0 old.log refl)) (old.backend, replay)
+        | inr out ↦ logged old.log new.log old.backend rest.1.0 replay out.0
       ]
     ]

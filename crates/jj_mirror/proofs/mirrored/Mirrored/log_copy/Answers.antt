@@ -5,8 +5,8 @@ use Rattle.jj_backend.specs.Contents.{copy_history_content}
 use Rattle.jj_mirror.proofs.FreeDigests.{copy_failure}
 use Rattle.jj_mirror.proofs.mirrored.Mirrored.log_copy.Goals as goal
 
-pub returns-in_err-check_copy-clause-error : goal.returns-in_err-check_copy-clause-error
-returns-in_err-check_copy-clause-error g c =
+pub returns-in_err-is_stored-clause-error : goal.returns-in_err-is_stored-clause-error
+returns-in_err-is_stored-clause-error g c =
     let is : c.digest-id.result ≡ blake2b (copy_history_content c.args.copy.now) = cc (c.digest-id.ensures, c.deref.ensures.value, c.in_ok-bytes.ensures.bytes) in
-    let p = err_from_is_err_and c.from_residual-in_err-check_copy.result c.from_residual-in_err-check_copy.ensures.1 in
-    rw (p.1, p.2) (copy_failure g.L.ObjectLog.contains c.args.self.now.log g.L.ObjectLog.may_fail c.args.self.now.backend c.args.copy.now c.digest-id.result c.in_err-check_copy.field-0.0 is c.in_err-check_copy.ensures.error)
+    let p = err_from_is_err_and c.from_residual-in_err-is_stored.result c.from_residual-in_err-is_stored.ensures.1 in
+    rw (p.1, p.2) (copy_failure g.L.ObjectLog.contains c.args.self.now.log g.L.ObjectLog.may_fail c.args.self.now.backend c.args.copy.now c.digest-id.result c.in_err-is_stored.field-0.0 is c.in_err-is_stored.ensures.error)

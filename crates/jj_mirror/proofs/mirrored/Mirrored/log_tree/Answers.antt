@@ -5,8 +5,8 @@ use Rattle.jj_backend.specs.TreeLaws.{tree_content}
 use Rattle.jj_mirror.proofs.FreeDigests.{tree_failure}
 use Rattle.jj_mirror.proofs.mirrored.Mirrored.log_tree.Goals as goal
 
-pub returns-in_err-check_tree-clause-error : goal.returns-in_err-check_tree-clause-error
-returns-in_err-check_tree-clause-error g c =
+pub returns-in_err-is_stored-clause-error : goal.returns-in_err-is_stored-clause-error
+returns-in_err-is_stored-clause-error g c =
     let is : c.digest-id.result ≡ blake2b (tree_content c.args.tree.now) = cc (c.digest-id.ensures, c.deref.ensures.value, c.in_ok-bytes.ensures.bytes) in
-    let p = err_from_is_err_and c.from_residual-in_err-check_tree.result c.from_residual-in_err-check_tree.ensures.1 in
-    rw (p.1, p.2) (tree_failure g.L.ObjectLog.contains c.args.self.now.log g.L.ObjectLog.may_fail c.args.self.now.backend c.args.tree.now c.digest-id.result c.in_err-check_tree.field-0.0 is c.in_err-check_tree.ensures.error)
+    let p = err_from_is_err_and c.from_residual-in_err-is_stored.result c.from_residual-in_err-is_stored.ensures.1 in
+    rw (p.1, p.2) (tree_failure g.L.ObjectLog.contains c.args.self.now.log g.L.ObjectLog.may_fail c.args.self.now.backend c.args.tree.now c.digest-id.result c.in_err-is_stored.field-0.0 is c.in_err-is_stored.ensures.error)

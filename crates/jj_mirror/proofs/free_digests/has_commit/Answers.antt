@@ -1,0 +1,5 @@
+use Rattle.jj_trees.proofs.SameRecords.{commit-Decides}
+use Rattle.jj_mirror.proofs.free_digests.has_commit.Goals as goal
+
+pub was_read-requires : goal.was_read-requires
+was_read-requires c = commit-Decides
