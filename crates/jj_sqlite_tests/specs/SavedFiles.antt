@@ -1,6 +1,7 @@
 -- The entries of a log after a crash.
--- Cited by contracts of public items: CrashLeaves, HasReplayAfterCrash, MayContain, file_entry.
-use Rattle.std.specs.Prelude.{◌⊎◌, ◌++◌, ◌∷◌, [], ℕ, List}
+-- Cited by contracts of public items: CrashLeaves, HasReplayAfterCrash, HasWith, MayContain,
+-- file_entry.
+use Rattle.std.specs.Prelude.{◌⊎◌, ◌++◌, ◌∷◌, [], ℕ, List, Contains}
 use Rattle.sqlite_wal.specs.Recovery.{Image}
 use Rattle.sqlite_disk.specs.declared.Disk.{Ghosts}
 use Rattle.sqlite_store.specs.declared.store.FileStore.{FileStore}
@@ -16,6 +17,10 @@ use Rattle.jj_sqlite.specs.Crashes.{HasLogAfterCrash}
 -- the entry of a file
 abbrev pub file_entry : List ℕ → LogEntryValue
 file_entry contents = entry_of (file_object contents)
+
+-- P holds of these entries, which contain the entry, or of them and the entry at the end
+abbrev pub HasWith : (List LogEntryValue → Type 0) → List LogEntryValue → LogEntryValue → Type 0
+HasWith P entries entry = (Contains entries entry × P entries) ⊎ P (entries ++ entry ∷ [])
 
 -- this content of the files holds the database of a log with these entries, and at most one more,
 -- whose write failed

@@ -1,6 +1,5 @@
 //! Proved callers: a commit that is read from a database by a later process.
-ghost use Rattle.std.specs.Prelude.{◌≡◌, ◌++◌, [], ◌∷◌, ℕ, IsTrue, List, All, Contains, take};
-ghost use Rattle.std.specs.Prelude.{IfOk, IfErr, OnOk};
+ghost use Rattle.std.specs.Prelude.{◌≡◌, ℕ, IsTrue, List, All, Contains, take, IfOk, IfErr, OnOk};
 ghost use Rattle.sqlite.specs.Files.{file_state, over_files};
 ghost use Rattle.sqlite.specs.Held.{state};
 ghost use Rattle.sqlite.specs.State.{HasCleanDisk};
@@ -9,13 +8,14 @@ ghost use Rattle.jj_backend.specs.Contents.{IsCommit, commit_content};
 ghost use Rattle.jj_backend.specs.Objects.{commit_object};
 ghost use Rattle.jj_backend.specs.Records.{CommitValue};
 ghost use Rattle.jj_mirror.specs.Entries.{LogEntryValue, entry_of};
-ghost use Rattle.jj_mirror.specs.Logs.{Appends};
+ghost use Rattle.jj_mirror.specs.Logs.{WithEntry};
+ghost use Rattle.jj_mirror.specs.Replays.{IsReplay};
 ghost use Rattle.jj_sqlite.specs.Inserts.{ContainsEntries, StoresEntries, WasNewOrContains};
 ghost use Rattle.jj_sqlite.specs.Rows.{HasDigest};
 ghost use Rattle.jj_sqlite.specs.Faults.{HasFault};
 ghost use Rattle.jj_sqlite.specs.Closing.{CrashContains, FilesContain, IsBackup};
 ghost use Rattle.jj_sqlite.specs.Tables.{HasOnlyRowsOf};
-ghost use Rattle.jj_replay.specs.Replays.{IsReplay};
+ghost use Rattle.jj_sqlite_tests.specs.SavedFiles.{HasWith};
 
 use jj_backend::backend::{Backend, BackendResult, Commit, CommitId, NoSigner};
 use jj_mirror::mirrored::Mirrored;
@@ -26,22 +26,33 @@ use sqlite::{Alter, Connection, FileStore, Options};
 use sqlite_disk::{Disk, Files};
 use std::alloc::Global;
 
-fn log_commit<S: Alter>(
+/// Writes a commit to a store that is the replay of its log. If the log has the commit's entry, it
+/// stays as it was; else the entry is appended.
+pub fn log_commit<S: Alter>(
     alloc: Global,
     store: &mut Mirrored<SqliteLog<S>>,
     commit: Commit,
 ) -> BackendResult<CommitId>
     ensures id { IfOk result (λ id. id ≡ blake2b (commit_content commit)) }
     ensures value { OnOk result (IsCommit commit) }
-    ensures logged { OnOk result (Appends (StoresEntries S.Store) store.old.log.conn
-        store.new.log.conn (entry_of (commit_object commit))) }
+    ensures once { OnOk result ((entries : List LogEntryValue)
+        → StoresEntries S.Store store.old.log.conn entries → IsReplay entries store.old.backend
+        → WithEntry (StoresEntries S.Store store.new.log.conn) entries
+        (entry_of (commit_object commit))) }
+    ensures logged { OnOk result ((entries : List LogEntryValue)
+        → StoresEntries S.Store store.old.log.conn entries
+        → (HasCleanDisk (state S.Store store.old.log.conn)
+        → IsReplay entries store.old.backend)
+        → HasWith (StoresEntries S.Store store.new.log.conn) entries
+        (entry_of (commit_object commit))) }
 {
     let stored = store.write_commit(alloc, commit, None::<&mut NoSigner>)?;
     let (id, _) = stored;
     Ok(id)
 }
 
-/// Opens a store over a database and writes a commit, whose row is then in the table of the log.
+/// Opens a store over a database and writes a commit, whose row is then in the table of the log:
+/// one that it had, or a new one.
 /// Returns the id that the write returned, the commit's digest, and the connection.
 pub fn write_stored<S: Alter>(
     alloc: Global,
@@ -51,8 +62,8 @@ pub fn write_stored<S: Alter>(
     ensures id { IfOk result.0 (λ id. id ≡ blake2b (commit_content commit)) }
     ensures value { OnOk result.0 (IsCommit commit) }
     ensures logged { OnOk result.0 ((entries : List LogEntryValue)
-        → WasNewOrContains S.Store conn entries → StoresEntries S.Store result.1
-        (entries ++ entry_of (commit_object commit) ∷ [])) }
+        → WasNewOrContains S.Store conn entries → HasWith (StoresEntries S.Store result.1)
+        entries (entry_of (commit_object commit))) }
 {
     let mut store = match open_store(alloc, conn) {
         Ok(store) => store,
@@ -102,13 +113,13 @@ pub fn save_commit<D: Disk + Drop>(
     ensures value { OnOk result (IsCommit commit) }
     ensures logged { IfOk result (λ saved. (entries : List LogEntryValue)
         → WasNewOrContains over_files conn entries
-        → FilesContain D.Disk saved.1 (entries ++ entry_of (commit_object commit) ∷ [])) }
+        → HasWith (FilesContain D.Disk saved.1) entries (entry_of (commit_object commit))) }
     ensures crash { IfOk result (λ saved. (entries : List LogEntryValue)
         → WasNewOrContains over_files conn entries
-        → CrashContains D.Disk saved.1 (entries ++ entry_of (commit_object commit) ∷ [])) }
+        → HasWith (CrashContains D.Disk saved.1) entries (entry_of (commit_object commit))) }
     ensures backup { IfOk result (λ saved. (entries : List LogEntryValue)
         → WasNewOrContains over_files conn entries
-        → IsBackup D.Disk saved.1 (entries ++ entry_of (commit_object commit) ∷ [])) }
+        → HasWith (IsBackup D.Disk saved.1) entries (entry_of (commit_object commit))) }
     ensures log { IfOk result (λ saved. IsTrue (D.Disk.is_usable saved.1.log)) }
     ensures db { IfOk result (λ saved. IsTrue (D.Disk.is_usable saved.1.db)) }
 {

@@ -1,5 +1,5 @@
 //! Proved callers: what a crash leaves of the commits that were written.
-ghost use Rattle.std.specs.Prelude.{◌⊎◌, ◌++◌, ℕ, List, take, map, IfOk, OnOk, OnErr};
+ghost use Rattle.std.specs.Prelude.{◌⊎◌, ℕ, List, take, map, IfOk, OnOk, OnErr};
 ghost use Rattle.sqlite_wal.specs.Recovery.{Image};
 ghost use Rattle.sqlite.specs.Files.{over_files};
 ghost use Rattle.sqlite.specs.Held.{state};
@@ -8,7 +8,8 @@ ghost use Rattle.sqlite.specs.State.{HasCleanDisk, IsLive, Opens};
 ghost use Rattle.sqlite_trees.specs.View.{IsClean};
 ghost use Rattle.sqlite_store.specs.FileStore.{view};
 ghost use Rattle.jj_mirror.specs.Entries.{LogEntryValue};
-ghost use Rattle.jj_mirror.specs.Logs.{Appends, Keeps};
+ghost use Rattle.jj_mirror.specs.Logs.{WithEntries, WithEntry};
+ghost use Rattle.jj_mirror.specs.Replays.{IsReplay};
 ghost use Rattle.jj_sqlite.specs.Inserts.{StoresEntries};
 ghost use Rattle.jj_sqlite_tests.specs.SavedFiles.{CrashLeaves, HasReplayAfterCrash, MayContain, file_entry};
 
@@ -22,36 +23,43 @@ use sqlite::{Alter, Connection, FileStore};
 use sqlite_disk::Disk;
 use std::alloc::Global;
 
-// Writes a file to a store.
+// Writes a file to a store that is the replay of its log.
 fn log_file<S: Alter>(
     alloc: Global,
     store: &mut Mirrored<SqliteLog<S>>,
     contents: &[u8],
 ) -> BackendResult<()>
-    ensures ok { OnOk result (Appends (StoresEntries S.Store) store.old.log.conn
-        store.new.log.conn (file_entry contents.now)) }
-    ensures err { OnErr result (Keeps (StoresEntries S.Store) store.old.log.conn
-        store.new.log.conn ⊎ Appends (StoresEntries S.Store) store.old.log.conn
-        store.new.log.conn (file_entry contents.now)) }
+    ensures ok { OnOk result ((entries : List LogEntryValue)
+        → StoresEntries S.Store store.old.log.conn entries → IsReplay entries store.old.backend
+        → WithEntry (λ all. StoresEntries S.Store store.new.log.conn all
+        × IsReplay all store.new.backend) entries (file_entry contents.now)) }
+    ensures err { OnErr result ((entries : List LogEntryValue)
+        → StoresEntries S.Store store.old.log.conn entries → IsReplay entries store.old.backend
+        → StoresEntries S.Store store.new.log.conn entries
+        ⊎ WithEntry (StoresEntries S.Store store.new.log.conn) entries
+        (file_entry contents.now)) }
 {
     store.write_file(alloc, RepoPath::root(), contents)?;
     Ok(())
 }
 
-/// Writes files to a store, up to the first write that fails. The log has the entries of the files
-/// that were written, none of them skipped, and a crash leaves all of them and at most one more.
+/// Writes files to a store that is the replay of its log, up to the first write that fails. The log
+/// has the entries that it had and, at its end, those of the written files that it lacked, each
+/// once and none of them skipped. A crash leaves all of them and at most one more.
 pub fn write_files<S: Alter>(
     alloc: Global,
     store: &mut Mirrored<SqliteLog<S>>,
     files: &[Vec<u8>],
 ) -> BackendResult<()>
     ensures ok { OnOk result ((entries : List LogEntryValue)
-        → StoresEntries S.Store store.old.log.conn entries → StoresEntries S.Store
-        store.new.log.conn (entries ++ map (λ file. file_entry file.items) files.now)) }
+        → StoresEntries S.Store store.old.log.conn entries → IsReplay entries store.old.backend
+        → WithEntries (λ all. StoresEntries S.Store store.new.log.conn all
+        × IsReplay all store.new.backend)
+        entries (map (λ file. file_entry file.items) files.now)) }
     ensures err { OnErr result ((entries : List LogEntryValue)
-        → StoresEntries S.Store store.old.log.conn entries → (count : ℕ) × StoresEntries S.Store
-        store.new.log.conn
-        (entries ++ map (λ file. file_entry file.items) (take count files.now))) }
+        → StoresEntries S.Store store.old.log.conn entries → IsReplay entries store.old.backend
+        → (count : ℕ) × WithEntries (StoresEntries S.Store store.new.log.conn) entries
+        (map (λ file. file_entry file.items) (take count files.now))) }
 {
     for contents in files {
         log_file(alloc, store, contents)?;
