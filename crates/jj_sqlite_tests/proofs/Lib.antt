@@ -1,1 +1,2 @@
 pub mod WrittenFiles
+pub mod BatchedEntries

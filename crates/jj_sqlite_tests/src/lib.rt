@@ -1,5 +1,6 @@
 //! Proved callers of `jj_sqlite`.
 #![tactic(auto)]
 
+pub mod batches;
 pub mod callers;
 pub mod crashes;
