@@ -183,12 +183,25 @@ pub fn distinct_files(
     Ok(store)
 }
 
+// Writes files to a new store, up to the first write that fails. Reports an error of opening the
+// empty log as lack of memory.
+fn written_store(alloc: Global, files: &[Vec<u8>]) -> Result<Mirrored<MemoryLog>, ReplayError>
+    ensures replay { IfOk result (λ store. (backend : MemoryBackendValue)
+        × IsReplay store.log backend) }
+    ensures error { IfErr result (λ e. e ≡ ReplayError.Memory) }
+{
+    match distinct_files(alloc, MemoryLog::new(alloc), files) {
+        Ok(store) => Ok(store),
+        Err(_) => Err(ReplayError::Memory),
+    }
+}
+
 /// Writes files to a new store, up to the first write that fails, and replays its log. That fails
 /// only if memory runs out.
 pub fn replayed_files(alloc: Global, files: &[Vec<u8>]) -> Result<MemoryBackend, ReplayError>
     ensures { IfErr result (λ e. e ≡ ReplayError.Memory) }
 {
-    let store = distinct_files(alloc, MemoryLog::new(alloc), files)?;
+    let store = written_store(alloc, files)?;
     replay(alloc, store.log().entries())
 }
 
