@@ -1,8 +1,6 @@
 //! Laws of the libraries that this crate re-exports: empty functions whose contracts state
 //! properties of definitions, for use in proofs.
-pub use glob_grammar::laws::{
-    parsed_globs_are_spelled, spelled_globs_are_parsed, spelling_is_unique,
-};
+pub use jj_globs::laws::{parsed_globs_are_spelled, spelled_globs_are_parsed, spelling_is_unique};
 pub use jj_ids::object_id::sum_laws;
 pub use jj_ids::ref_name::remote_symbol_display_is_injective;
 pub use jj_matchers::laws::{acceptance_laws, walks_find_accepted_marks};

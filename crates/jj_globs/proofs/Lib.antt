@@ -19,3 +19,7 @@ pub mod LiteralPrefix
 pub mod Tries
 pub mod EscapedTokens
 pub mod EscapedMeaning
+pub mod GrammarSteps
+pub mod GrammarTrees
+pub mod GrammarParsed
+pub mod GrammarSpelled

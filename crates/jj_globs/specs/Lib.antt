@@ -2,6 +2,7 @@
 pub mod GlobSyntax
 pub mod GlobMeaning
 pub mod GlobParsing
+pub mod GlobGrammar
 pub mod GlobEscape
 pub mod GlobPrefix
 pub mod GlobBacktracking

@@ -1,4 +1,5 @@
-//! Globs over byte strings: parser, compiler and matcher.
+//! Globs over byte strings: parser, compiler and matcher, and laws of their grammar.
 #![tactic(auto)]
 
 pub mod glob;
+pub mod laws;

@@ -1,5 +1,5 @@
 //! Laws of the parser of globs, as contracts of functions with empty bodies.
-ghost use Rattle.glob_grammar.specs.Grammar.{ParsedGlobsAreSpelled, SpelledGlobsAreParsed, SpellingIsUnique};
+ghost use Rattle.jj_globs.specs.GlobGrammar.{ParsedGlobsAreSpelled, SpelledGlobsAreParsed, SpellingIsUnique};
 
 /// The tokens of a pattern have a syntax tree that the pattern spells by the grammar.
 pub fn parsed_globs_are_spelled()

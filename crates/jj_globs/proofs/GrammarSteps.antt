@@ -6,7 +6,7 @@ use Rattle.jj_globs.specs.declared.glob.token.Part.TheVariants.{Byte, Star, Lead
 use Rattle.jj_globs.specs.declared.glob.symbol.Position.{Position}
 use Rattle.jj_globs.specs.declared.glob.symbol.Position.TheVariants.{Start, Elsewhere}
 use Rattle.jj_globs.specs.GlobSyntax.{Lexeme, asterisk, slash, comma, close_brace, literal, position_of, two_stars, with_dirs, with_last_dirs, parse}
-use Rattle.glob_grammar.specs.Grammar.{ends, is_slash, has_dirs, has_component, Dirs, none, more}
+use Rattle.jj_globs.specs.GlobGrammar.{ends, is_slash, has_dirs, has_component, Dirs, none, more}
 
 -- whether groups are open
 abbrev pub in_group : ℕ → Bool

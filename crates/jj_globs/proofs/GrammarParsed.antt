@@ -8,9 +8,9 @@ use Rattle.jj_globs.specs.declared.glob.symbol.Position.TheVariants.{Start, Lead
 use Rattle.jj_globs.specs.declared.glob.error.GlobError.{GlobError}
 use Rattle.jj_globs.specs.GlobMeaning.{Sequence, done, next, group, Alternatives, no_more, either, Reading, reading_of}
 use Rattle.jj_globs.specs.GlobSyntax.{Lexeme, asterisk, slash, open_brace, comma, close_brace, symbol_of, lexemes, only_dirs, position_after, position_after_group, position_of, with_or, with_close, closes_empty_group, parse, tokens_of}
-use Rattle.glob_grammar.specs.Grammar.{ends, has_dirs, has_component, Dirs, none, more, with_alternative, Spells, SpellsAlternatives, end, any_byte, one_of, byte, comma_byte, star, slash_byte, leading, leading_last, inner, below, empty_group, whole_group, last, another, SpelledGlobsAreParsed, SpellingIsUnique}
-use Rattle.glob_grammar.proofs.Steps.{in_group, end-step, slash-step, comma-step, last-step, dirs-step, IsStarHere, star-step, leading-run, inner-run}
-use Rattle.glob_grammar.proofs.Trees.{HasAlternatives, AllHaveAlternatives, push, push_first, push_more, reading_of-push}
+use Rattle.jj_globs.specs.GlobGrammar.{ends, has_dirs, has_component, Dirs, none, more, with_alternative, Spells, SpellsAlternatives, end, any_byte, one_of, byte, comma_byte, star, slash_byte, leading, leading_last, inner, below, empty_group, whole_group, last, another, SpelledGlobsAreParsed, SpellingIsUnique}
+use Rattle.jj_globs.proofs.GrammarSteps.{in_group, end-step, slash-step, comma-step, last-step, dirs-step, IsStarHere, star-step, leading-run, inner-run}
+use Rattle.jj_globs.proofs.GrammarTrees.{HasAlternatives, AllHaveAlternatives, push, push_first, push_more, reading_of-push}
 
 -- 1. Each group of a spelled tree has an alternative.
 

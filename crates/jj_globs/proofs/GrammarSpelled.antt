@@ -6,9 +6,9 @@ use Rattle.jj_globs.specs.declared.glob.token.Part.TheVariants.{Byte, AnyByte, S
 use Rattle.jj_globs.specs.declared.glob.token.ByteRange.{ByteRange}
 use Rattle.jj_globs.specs.GlobMeaning.{Sequence, done, next, group, Alternatives, no_more, either, Reading, reading_of}
 use Rattle.jj_globs.specs.GlobSyntax.{Lexeme, question, asterisk, slash, open_brace, comma, close_brace, literal, class, syntax_error, symbol_of, lexemes, only_dirs, position_of, with_dirs, with_last_dirs, two_stars, ends_sequence, with_or, with_close, closes_empty_group, parse, tokens_of}
-use Rattle.glob_grammar.specs.Grammar.{ends, is_slash, has_dirs, has_component, Dirs, none, more, with_alternative, Spells, SpellsAlternatives, end, any_byte, one_of, byte, comma_byte, star, slash_byte, leading, leading_last, inner, below, empty_group, whole_group, last, another, IsSpelled, ParsedGlobsAreSpelled}
-use Rattle.glob_grammar.proofs.Steps.{in_group}
-use Rattle.glob_grammar.proofs.Parsed.{spelled_globs_are_parsed, same-tokens, tokens_of-parse}
+use Rattle.jj_globs.specs.GlobGrammar.{ends, is_slash, has_dirs, has_component, Dirs, none, more, with_alternative, Spells, SpellsAlternatives, end, any_byte, one_of, byte, comma_byte, star, slash_byte, leading, leading_last, inner, below, empty_group, whole_group, last, another, IsSpelled, ParsedGlobsAreSpelled}
+use Rattle.jj_globs.proofs.GrammarSteps.{in_group}
+use Rattle.jj_globs.proofs.GrammarParsed.{spelled_globs_are_parsed, same-tokens, tokens_of-parse}
 
 -- 1. The groups of a pattern that parses are closed.
 

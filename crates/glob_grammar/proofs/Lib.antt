@@ -1,4 +1,0 @@
-pub mod Steps
-pub mod Trees
-pub mod Parsed
-pub mod Spelled
