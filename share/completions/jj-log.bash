@@ -1,2 +1,2 @@
 # Completion of jj-log for bash.
-complete -W '--help --version' jj-log
+complete -W '--columns --help --version' jj-log

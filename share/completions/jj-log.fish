@@ -1,4 +1,5 @@
 # Completion of jj-log for fish.
 complete -c jj-log -f
+complete -c jj-log -l columns -x -d 'the most columns'
 complete -c jj-log -s h -l help -d 'print help'
 complete -c jj-log -s V -l version -d 'print the version'

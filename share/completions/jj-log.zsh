@@ -1,4 +1,5 @@
 #compdef jj-log
 _arguments \
+    '--columns[the most columns]:columns:' \
     '(-h --help)'{-h,--help}'[print help]' \
     '(-V --version)'{-V,--version}'[print the version]'

@@ -16,7 +16,7 @@ use jj_files::file_util::{Sink, Source};
 use jj_filter::failure::Failure;
 use jj_log::commits::{Commit, NumberedCommit};
 use jj_log::fault::{Fault, LogError};
-use jj_log::layout::{self, MAX_COLUMNS, Row};
+use jj_log::layout::{self, Row};
 use jj_log::{input, program, targets};
 use jj_walks::graph::GraphEdge;
 use std::alloc::{AllocError, Global};
@@ -27,13 +27,14 @@ pub fn lay_out(
     columns: &mut Vec<usize>,
     node: usize,
     edges: Vec<GraphEdge<usize>>,
+    max_columns: usize,
 ) -> Result<Row, LogError>
-    ensures row { IfOk result (λ row. IsRow columns.old.items row columns.new.items) }
+    ensures row { IfOk result (λ row. IsRow max_columns columns.old.items row columns.new.items) }
     ensures error { IfErr result (λ error. (error ≡ LogError.Memory)
         ⊎ ((error ≡ LogError.TooWide node)
-        × (MAX_COLUMNS < widest_line columns.old.items (node, edges.items)))) }
+        × (max_columns < widest_line columns.old.items (node, edges.items)))) }
 {
-    layout::lay_out(alloc, columns, node, edges)
+    layout::lay_out(alloc, columns, node, edges, max_columns)
 }
 
 /// `edges_of`.
@@ -69,7 +70,8 @@ pub fn start<R: Source, W: Sink, E: Sink>(
     writer: &mut W,
     errors: &mut E,
 ) -> u8
-    ensures { (ended : Result (Unit {0}) (Failure FaultValue)) × EndsBy DrawingsOf IsInputFault
+    ensures { (ended : Result (Unit {0}) (Failure FaultValue))
+        × EndsBy (DrawingsOf 500) (IsInputFault 500)
         (streams (R.remaining reader.old) (W.contents writer.old))
         (streams (R.remaining reader.new) (W.contents writer.new)) ended
         × (R.has_failed reader.old ≡ false → R.has_failed reader.new ≡ is_read_failure ended)

@@ -4,6 +4,7 @@ use jj_backend::backend::Backend;
 use jj_ids::object_id::{CommitId, ObjectId};
 use jj_log::commits::Commit;
 use jj_log::log::draw_log;
+use jj_log::program::DEFAULT_COLUMNS;
 use std::alloc::Global;
 use store_walks::{ReadCommit, history_order};
 
@@ -35,5 +36,5 @@ pub(crate) fn draw_history<B: Backend>(
     for read in &history_order(alloc, store, &starts)? {
         commits.push(entry_of(alloc, read)?)?;
     }
-    Ok(draw_log(alloc, &commits)?)
+    Ok(draw_log(alloc, &commits, DEFAULT_COLUMNS)?)
 }

@@ -13,3 +13,4 @@ mod DrawnRows
 mod WideRows
 mod Interning
 mod ReadLines
+mod LogFaults

@@ -11,9 +11,10 @@ use Rattle.jj_filter.specs.Runs.{IsInputFailure}
 use Rattle.jj_filter.specs.declared.failure.Failure.{Failure}
 use Rattle.jj_filter.proofs.InputFailures.{IsInputFailure-weaker}
 use Rattle.jj_log.specs.declared.commits.Commit.{Commit}
+use Rattle.jj_log.specs.Reports.{IsFaultAt}
 use Rattle.jj_log.specs.declared.fault.Fault.{Fault}
-use Rattle.jj_log.specs.declared.fault.Fault.TheVariants.{NotUtf8, Line}
-use Rattle.jj_log.specs.InputLines.{AreCommitsOf, HasCommit, Lacks, IsCutAt, IsCommitLine, IsFaultOf, IsLineFault, IsName, IsParseFault, is_nonempty, parts_of, words_of, one_word, numbered_line, numbered_lines, commit_lines}
+use Rattle.jj_log.specs.declared.fault.LineFault.{LineFault}
+use Rattle.jj_log.specs.InputLines.{AreCommitsOf, HasCommit, Lacks, IsCutAt, IsBadLine, IsCommitLine, IsFaultOf, IsLineFault, IsName, IsParseFault, is_nonempty, parts_of, words_of, one_word, numbered_line, numbered_lines, commit_lines}
 
 -- 1. Strings cut at a byte.
 
@@ -143,15 +144,15 @@ have_commits (l ∷ lines) [] all = absurd all
 have_commits (l ∷ lines) (commit ∷ commits) (first, rest) = All-cons HasCommit l lines (commit, first) (have_commits lines commits rest)
 
 faults_more : (front part later whole : List (ℕ × List ℕ)) → whole ≡ front ++ (part ++ later) → All HasCommit front → (fault : Fault) → IsFaultOf part fault → IsFaultOf whole fault
-faults_more front part later whole is good (Line number kind) (before, line, after, split, all, bad) = (
+faults_more front part later whole is good fault (before, number, line, after, split, all, bad) = (
   front ++ before,
+  number,
   line,
   after ++ later,
   is ∙ ap (λ l. front ++ (l ++ later)) split ∙ ap (λ l. front ++ l) (append_assoc before ((number, line) ∷ after) later) ∙ sym (append_assoc front before ((number, line) ∷ (after ++ later))),
   All-append HasCommit front before good all,
   bad,
 )
-faults_more front part later whole is good NotUtf8 fails = absurd fails
 
 pub fault_of_line : (input rest : List ℕ) (number : ℕ) (old : List Commit) (before line : List ℕ) (left : List (ℕ × List ℕ)) → IsParsing input rest number old before
     → numbered_lines number (parts_of 10 rest) ≡ numbered_line number line ++ left → (failure : Failure Fault) → IsInputFailure (IsFaultOf (numbered_line number line)) failure → IsInputFailure (IsParseFault input) failure
@@ -161,11 +162,13 @@ fault_of_line input rest number old before line left so next failure is =
     failure is
 
 line_fault : (number : ℕ) (line : List ℕ) (fault : Fault) → (length line ≡ 0 → ⊥) → IsLineFault number line fault → IsFaultOf (numbered_line number line) fault
-line_fault number line (Line at kind) other (same, bad) = ([], line, [], rw (one_line number line other, same) refl, All-nil HasCommit, bad)
-line_fault number line NotUtf8 other is = absurd is
+line_fault number line fault other bad = ([], number, line, [], one_line number line other, All-nil HasCommit, bad)
 
 pub line_failure : (number : ℕ) (line : List ℕ) (failure : Failure Fault) → (length line ≡ 0 → ⊥) → IsInputFailure (IsLineFault number line) failure → IsInputFailure (IsFaultOf (numbered_line number line)) failure
 line_failure number line failure other is = IsInputFailure-weaker (IsLineFault number line) (IsFaultOf (numbered_line number line)) (λ fault fails. line_fault number line fault other fails) failure is
+
+pub bad_line : (number : ℕ) (line : List ℕ) (kind : LineFault) → IsBadLine line kind → (failure : Failure Fault) → IsInputFailure (IsFaultAt number kind line) failure → IsInputFailure (IsLineFault number line) failure
+bad_line number line kind bad failure is = IsInputFailure-weaker (IsFaultAt number kind line) (IsLineFault number line) (λ fault at. (kind, bad, at)) failure is
 
 pub not_from : (b : Bool) → (b ≡ true → ⊥) → not b ≡ true
 not_from true other = absurd (other refl)

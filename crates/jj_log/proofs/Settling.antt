@@ -207,9 +207,9 @@ module _ (before : List ℕ) (node column : ℕ) (edges : List (GraphEdge ℕ)) 
       (no_repeat right (settles.once (distinct_of (drop (suc column) (opened before node)) (drop_once (suc column) (opened before node) all))))
       (λ t first second. ⊎_elim (λ old. apart_around node (opened before node) column all t first old) (λ (edge, at, (present, same, new)). new first) ((settles.all t).0 second))))
 
-pub more_rows : (before : List ℕ) (rows : List Row) (row : Row) (mid after : List ℕ) → AreRows before rows mid → IsRow mid row after → AreRows before (rows ++ row ∷ []) after
-more_rows before [] row mid after same is = (after, subst (λ (l : List ℕ). IsRow l row after) (sym same) is, refl)
-more_rows before (r ∷ rows) row mid after (next, first, rest) is = (next, first, more_rows next rows row mid after rest is)
+pub more_rows : (most : ℕ) (before : List ℕ) (rows : List Row) (row : Row) (mid after : List ℕ) → AreRows most before rows mid → IsRow most mid row after → AreRows most before (rows ++ row ∷ []) after
+more_rows most before [] row mid after same is = (after, subst (λ (l : List ℕ). IsRow most l row after) (sym same) is, refl)
+more_rows most before (r ∷ rows) row mid after (next, first, rest) is = (next, first, more_rows most next rows row mid after rest is)
 
 pub opened_added : (columns : List ℕ) (n : ℕ) → (Contains columns n → ⊥) → columns ++ n ∷ [] ≡ opened columns n
 opened_added columns n none = ap (λ b. cond b columns (columns ++ n ∷ [])) (sym (false_from (list_any (λ t. t == n) columns) (λ yes. none (any_at columns n yes))))

@@ -10,15 +10,14 @@ use Rattle.jj_log.specs.Failures.{IsLayoutError}
 use Rattle.jj_log.specs.declared.fault.LogError.{LogError}
 use Rattle.jj_log.specs.declared.fault.LogError.TheVariants.{Memory, TooWide}
 use Rattle.jj_log.specs.declared.layout.Row.{Row}
-use Rattle.jj_log.specs.declared.layout.TheConstants.{MAX_COLUMNS}
 
 abbrev pub ListedNode : Type 0
 ListedNode = ℕ × Vec (GraphEdge ℕ) Global
 
-pub row_error : (nodes yielded rest : List ListedNode) (x : ListedNode) (rows : List Row) (columns : List ℕ) (error : LogError) → nodes ≡ (yielded ++ x ∷ []) ++ rest → map node_of_row rows ≡ map listed_item yielded → AreRows [] rows columns
-    → (error ≡ Memory) ⊎ ((error ≡ TooWide x.0) × (MAX_COLUMNS < widest_line columns (listed_item x))) → IsLayoutError (map listed_item nodes) error
-row_error nodes yielded rest x rows columns error split same above (inl memory) = subst (IsLayoutError (map listed_item nodes)) (sym memory) tt
-row_error nodes yielded rest x rows columns error split same above (inr (wide, more)) = subst (IsLayoutError (map listed_item nodes)) (sym wide) (record {
+pub row_error : (most : ℕ) (nodes yielded rest : List ListedNode) (x : ListedNode) (rows : List Row) (columns : List ℕ) (error : LogError) → nodes ≡ (yielded ++ x ∷ []) ++ rest → map node_of_row rows ≡ map listed_item yielded → AreRows most [] rows columns
+    → (error ≡ Memory) ⊎ ((error ≡ TooWide x.0) × (most < widest_line columns (listed_item x))) → IsLayoutError most (map listed_item nodes) error
+row_error most nodes yielded rest x rows columns error split same above (inl memory) = subst (IsLayoutError most (map listed_item nodes)) (sym memory) tt
+row_error most nodes yielded rest x rows columns error split same above (inr (wide, more)) = subst (IsLayoutError most (map listed_item nodes)) (sym wide) (record {
   rows = rows;
   columns = columns;
   above = above;

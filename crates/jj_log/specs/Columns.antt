@@ -6,7 +6,6 @@ use Rattle.jj_walks.specs.declared.graph.GraphEdge.{GraphEdge}
 use Rattle.jj_walks.specs.Grouped.{is_in_graph, targets_of}
 use Rattle.jj_log.specs.Logs.{LogNode}
 use Rattle.jj_log.specs.declared.layout.Row.{Row}
-use Rattle.jj_log.specs.declared.layout.TheConstants.{MAX_COLUMNS}
 
 -- the commit of a row and its edges
 abbrev pub node_of_row : Row → LogNode
@@ -22,31 +21,31 @@ widest_line columns node = length (opened columns node.0) + (length node.1 - 1)
 
 -- The node is in the column that leads to it. Below it there is a column for each commit that a
 -- column led to before, except the node, and for each target of its edges that is not missing;
--- no two of them lead to one commit. No line has more than `MAX_COLUMNS` columns.
-pub record IsRow (before : List ℕ) (row : Row) (after : List ℕ) : Type 0 where
+-- no two of them lead to one commit. No line has more columns than `most`.
+pub record IsRow (most : ℕ) (before : List ℕ) (row : Row) (after : List ℕ) : Type 0 where
   pub width : row.width ≡ length (opened before row.node)
   pub within : row.column < row.width
   pub column : slice_index (opened before row.node) row.column ≡ row.node
   pub pending : IsDistinct eqb before → (t : ℕ) → Contains after t
       ↔ ((Contains before t × (t ≢ row.node)) ⊎ Contains (targets_of row.edges.items) t)
   pub once : IsDistinct eqb before → IsDistinct eqb after
-  pub fits : widest_line before (node_of_row row) ≤ MAX_COLUMNS
+  pub fits : widest_line before (node_of_row row) ≤ most
 
 -- rows, each with the columns that the one before it leaves
-abbrev pub AreRows : List ℕ → List Row → List ℕ → Type 0
-AreRows before [] after = before ≡ after
-AreRows before (row ∷ rows) after = (next : List ℕ) × IsRow before row next
-    × AreRows next rows after
+abbrev pub AreRows : ℕ → List ℕ → List Row → List ℕ → Type 0
+AreRows most before [] after = before ≡ after
+AreRows most before (row ∷ rows) after = (next : List ℕ) × IsRow most before row next
+    × AreRows most next rows after
 
--- the node with this number needs more columns than a line has, below the rows of those before it
-pub record IsTooWide (nodes : List LogNode) (n : ℕ) : Type 0 where
+-- the node with this number needs more than `most` columns, below the rows of those before it
+pub record IsTooWide (most : ℕ) (nodes : List LogNode) (n : ℕ) : Type 0 where
   pub rows : List Row
   pub columns : List ℕ
-  pub above : AreRows [] rows columns
+  pub above : AreRows most [] rows columns
   pub edges : List (GraphEdge ℕ)
   pub later : List LogNode
   pub nodes_are : nodes ≡ map node_of_row rows ++ (n, edges) ∷ later
-  pub wide : MAX_COLUMNS < widest_line columns (n, edges)
+  pub wide : most < widest_line columns (n, edges)
 
 -- an edge needs a column for this target that is not left of the node
 abbrev pub NeedsColumn : List ℕ → GraphEdge ℕ → ℕ → Type 0

@@ -1,6 +1,6 @@
 -- Errors of lists of commits.
 -- Cited by contracts of public items: IsLayoutError, IsOrderError, IsRowsError.
-use Rattle.std.specs.Prelude.{List}
+use Rattle.std.specs.Prelude.{ℕ, List}
 use Rattle.jj_dag.specs.Graph.{StrictlyReaches}
 use Rattle.jj_log.specs.Columns.{IsTooWide}
 use Rattle.jj_log.specs.Logs.{IsGroupedLog, LogNode}
@@ -16,15 +16,15 @@ IsOrderError commits (RepeatedName n) = ⊥
 IsOrderError commits (Cycle n) = StrictlyReaches (parents_of commits) n n
 IsOrderError commits (TooWide n) = ⊥
 
--- the error of nodes that are laid out: a row is too wide, or memory ran out
-abbrev pub IsLayoutError : List LogNode → LogError → Type 0
-IsLayoutError nodes Memory = Unit {0}
-IsLayoutError nodes (TooWide n) = IsTooWide nodes n
-IsLayoutError nodes error = ⊥
+-- the error of nodes that are laid out: a row needs more columns than `most`, or memory ran out
+abbrev pub IsLayoutError : (most : ℕ) → List LogNode → LogError → Type 0
+IsLayoutError most nodes Memory = Unit {0}
+IsLayoutError most nodes (TooWide n) = IsTooWide most nodes n
+IsLayoutError most nodes error = ⊥
 
 -- the error of the rows of numbered commits: that of their order, or a row of their log, with
--- branches together, is too wide
-abbrev pub IsRowsError : List NumberedCommit → LogError → Type 0
-IsRowsError commits (TooWide n) = (nodes : List LogNode) × IsGroupedLog commits nodes
-    × IsTooWide nodes n
-IsRowsError commits error = IsOrderError commits error
+-- branches together, needs more columns than `most`
+abbrev pub IsRowsError : (most : ℕ) → List NumberedCommit → LogError → Type 0
+IsRowsError most commits (TooWide n) = (nodes : List LogNode) × IsGroupedLog commits nodes
+    × IsTooWide most nodes n
+IsRowsError most commits error = IsOrderError commits error

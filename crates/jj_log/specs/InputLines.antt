@@ -5,8 +5,8 @@ use Rattle.std.specs.Prelude.{All, MatchOption, filter, map, reverse, length, st
 use Rattle.std.specs.List.{AllZip, slice_split}
 use Rattle.jj_log.specs.LogDrawings.{IsDrawing}
 use Rattle.jj_log.specs.declared.commits.Commit.{Commit}
+use Rattle.jj_log.specs.Reports.{IsFaultAt}
 use Rattle.jj_log.specs.declared.fault.Fault.{Fault}
-use Rattle.jj_log.specs.declared.fault.Fault.TheVariants.{Line}
 use Rattle.jj_log.specs.declared.fault.LineFault.{LineFault}
 use Rattle.jj_log.specs.declared.fault.LineFault.TheVariants.{MissingParents, BadName}
 
@@ -53,10 +53,10 @@ IsBadLine line MissingParents = Lacks 9 line
 IsBadLine line BadName = (name fields : List ℕ) × IsCutAt 9 line name fields × (IsName name → ⊥)
 IsBadLine line fault = ⊥
 
--- the fault is that of the line with this number
+-- the fault is that of the line with this number, and quotes it
 abbrev pub IsLineFault : ℕ → List ℕ → Fault → Type 0
-IsLineFault number line (Line at kind) = (at ≡ number) × IsBadLine line kind
-IsLineFault number line fault = ⊥
+IsLineFault number line fault = (kind : LineFault) × IsBadLine line kind
+    × IsFaultAt number kind line fault
 
 -- a line with its number, unless it is empty
 abbrev pub numbered_line : ℕ → List ℕ → List (ℕ × List ℕ)
@@ -85,16 +85,15 @@ HasCommit line = (commit : Commit) × IsCommitLine line.1 commit
 
 -- the fault is that of one of these lines, and those before it have commits
 abbrev pub IsFaultOf : List (ℕ × List ℕ) → Fault → Type 0
-IsFaultOf lines (Line number kind) = (before : List (ℕ × List ℕ)) × (line : List ℕ)
+IsFaultOf lines fault = (before : List (ℕ × List ℕ)) × (number : ℕ) × (line : List ℕ)
     × (later : List (ℕ × List ℕ)) × (lines ≡ before ++ (number, line) ∷ later)
-    × All HasCommit before × IsBadLine line kind
-IsFaultOf lines fault = ⊥
+    × All HasCommit before × IsLineFault number line fault
 
 -- the first line of the input that has no commit has the fault
 abbrev pub IsParseFault : List ℕ → Fault → Type 0
 IsParseFault input fault = IsFaultOf (commit_lines input) fault
 
--- the drawing of the commits of the input
-abbrev pub DrawsInput : List ℕ → List ℕ → Type 0
-DrawsInput input drawing = (commits : List Commit) × (numbers : List ℕ)
-    × AreCommitsOf input commits numbers × IsDrawing commits drawing
+-- the drawing of the commits of the input in at most `most` columns
+abbrev pub DrawsInput : (most : ℕ) → List ℕ → List ℕ → Type 0
+DrawsInput most input drawing = (commits : List Commit) × (numbers : List ℕ)
+    × AreCommitsOf input commits numbers × IsDrawing most commits drawing

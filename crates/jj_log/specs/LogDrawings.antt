@@ -14,19 +14,19 @@ use Rattle.jj_log.specs.declared.fault.LogError.TheVariants.{Memory, RepeatedNam
 use Rattle.jj_log.specs.declared.layout.Row.{Row}
 
 -- the commits were numbered by their names, their log, with branches together, was laid out in
--- rows, and these were drawn with the labels of the commits
-pub record IsDrawing (commits : List Commit) (drawing : List ℕ) : Type 0 where
+-- rows of at most `most` columns, and these were drawn with the labels of the commits
+pub record IsDrawing (most : ℕ) (commits : List Commit) (drawing : List ℕ) : Type 0 where
   pub numbered : List NumberedCommit
   pub are_numbered : AreNumbered commits numbered
   pub rows : List Row
   pub log : IsGroupedLog numbered (map node_of_row rows)
   pub last : List ℕ
-  pub columns : AreRows [] rows last
+  pub columns : AreRows most [] rows last
   pub drawn : AreDrawn (label_of commits) rows drawing
 
 -- memory ran out, or two commits have one name, or else the numbered commits have an error
-abbrev pub IsLogError : List Commit → LogError → Type 0
-IsLogError commits Memory = IsNumberingError commits Memory
-IsLogError commits (RepeatedName i) = IsNumberingError commits (RepeatedName i)
-IsLogError commits error = (numbered : List NumberedCommit) × AreNumbered commits numbered
-    × IsRowsError numbered error
+abbrev pub IsLogError : (most : ℕ) → List Commit → LogError → Type 0
+IsLogError most commits Memory = IsNumberingError commits Memory
+IsLogError most commits (RepeatedName i) = IsNumberingError commits (RepeatedName i)
+IsLogError most commits error = (numbered : List NumberedCommit) × AreNumbered commits numbered
+    × IsRowsError most numbered error

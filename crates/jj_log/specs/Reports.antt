@@ -1,7 +1,8 @@
 -- Messages of faults, and what standard error says of a run.
--- Cited by contracts of public items: fault_text, report_text, status_of.
-use Rattle.std.specs.Prelude.{◌++◌, ℕ, [], List, Result, codes}
+-- Cited by contracts of public items: IsFaultAt, fault_text, report_text, status_of.
+use Rattle.std.specs.Prelude.{◌≡◌, ◌++◌, ℕ, [], List, Result, codes, string_bytes}
 use Rattle.std.specs.Fmt.{decimal}
+use Rattle.jj_excerpts.specs.Excerpts.{excerpt_of}
 use Rattle.jj_filter.specs.Reports.{report_line}
 use Rattle.jj_filter.specs.Runs.{ended_status, ended_text}
 use Rattle.jj_filter.specs.declared.failure.Failure.{Failure}
@@ -15,11 +16,22 @@ line_fault_text MissingParents = codes "no TAB after the name; TABs separate fie
 line_fault_text BadName = codes "no name, or one with a blank"
 line_fault_text RepeatedName = codes "repeated name"
 line_fault_text Cycle = codes "cycle of parents"
-line_fault_text TooWide = codes "more than 500 columns"
+line_fault_text TooWide = codes "more columns than --columns allows; the default is 500"
 
 abbrev pub fault_text : Fault → List ℕ
 fault_text NotUtf8 = codes "input is not UTF-8"
-fault_text (Line line kind) = codes "line " ++ decimal line ++ codes ": " ++ line_fault_text kind
+fault_text (Line line kind quoted) =
+    codes "line " ++ decimal line ++ string_bytes quoted ++ line_fault_text kind
+
+-- the string as messages quote it after the number of a line
+abbrev pub quoted_part : List ℕ → List ℕ
+quoted_part string = codes ", " ++ excerpt_of string ++ codes ": "
+
+-- the fault has this line and kind, and quotes the string
+abbrev pub IsFaultAt : ℕ → LineFault → List ℕ → Fault → Type 0
+IsFaultAt line kind string (Line at k quoted) =
+    (at ≡ line) × (k ≡ kind) × (string_bytes quoted ≡ quoted_part string)
+IsFaultAt line kind string fault = ⊥
 
 -- the line that reports how a run ended, and its exit status
 abbrev pub report_text : Result (Unit {0}) (Failure Fault) → List ℕ

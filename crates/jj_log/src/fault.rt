@@ -1,12 +1,14 @@
 //! Error types of the log.
-ghost use Rattle.std.specs.Prelude.{◌≡◌};
-ghost use Rattle.jj_log.specs.Reports.{fault_text, line_fault_text};
+ghost use Rattle.std.specs.Prelude.{◌≡◌, IfOk, string_bytes};
+ghost use Rattle.jj_filter.specs.Runs.{IsInputFailure};
+ghost use Rattle.jj_log.specs.Reports.{IsFaultAt, fault_text, line_fault_text, quoted_part};
 ghost use Rattle.jj_log.specs.declared.fault.LogError.{LogError};
 
-use crate::layout::MAX_COLUMNS;
 use itoa::Buffer;
+use jj_excerpts::excerpt;
+use jj_filter::failure::Failure;
 use jj_filter::report::Report;
-use std::alloc::{AllocError, AllocFailed};
+use std::alloc::{AllocError, AllocFailed, Global};
 
 /// An error in a line of the input.
 #[derive(Clone, Copy, Debug, PartialEq, Eq)]
@@ -19,7 +21,7 @@ pub enum LineFault {
     RepeatedName,
     /// The commit is its own ancestor.
     Cycle,
-    /// The row of the commit needs more than `MAX_COLUMNS` columns.
+    /// The row of the commit needs more columns than are allowed.
     TooWide,
 }
 
@@ -32,19 +34,21 @@ pub enum LogError {
     RepeatedName(usize),
     /// This commit is its own ancestor.
     Cycle(usize),
-    /// The row of this commit needs more than `MAX_COLUMNS` columns.
+    /// The row of this commit needs more columns than are allowed.
     TooWide(usize),
 }
 
 /// An error of an input.
-#[derive(Clone, Copy, Debug, PartialEq, Eq)]
+#[derive(Debug, Drop)]
 pub enum Fault {
     NotUtf8,
-    Line { line: usize, kind: LineFault },
+    /// `quoted` is the line, or the name of its commit, as the message quotes it.
+    Line {
+        line: usize,
+        kind: LineFault,
+        quoted: String,
+    },
 }
-
-// The message of `TooWide` names the number.
-const _: () = prove!(MAX_COLUMNS == 500);
 
 impl LineFault {
     fn as_str(self) -> &'static str
@@ -55,8 +59,28 @@ impl LineFault {
             LineFault::BadName => "no name, or one with a blank",
             LineFault::RepeatedName => "repeated name",
             LineFault::Cycle => "cycle of parents",
-            LineFault::TooWide => "more than 500 columns",
+            LineFault::TooWide => "more columns than --columns allows; the default is 500",
         }
+    }
+}
+
+// Quotes a string for the message of a fault.
+fn quoted(alloc: Global, string: &str) -> Result<String, AllocError>
+    ensures { IfOk result (λ quoted. string_bytes quoted ≡ quoted_part string.now) }
+{
+    let mut quoted = String::from_str(alloc, ", ")?;
+    quoted.push_str(excerpt(alloc, string.as_bytes())?.as_str())?;
+    quoted.push_str(": ")?;
+    Ok(quoted)
+}
+
+// Returns the fault of a line, which quotes the string.
+pub(crate) fn fault_at(alloc: Global, line: usize, kind: LineFault, string: &str) -> Failure<Fault>
+    ensures { IsInputFailure (IsFaultAt line kind string.now) result }
+{
+    match quoted(alloc, string) {
+        Ok(quoted) => Failure::Input(Fault::Line { line, kind, quoted }),
+        Err(_) => Failure::Memory,
     }
 }
 
@@ -66,9 +90,16 @@ impl Report for Fault {
     ghost status = { λ _. 1 };
 
     fn parts<'a>(&'a self, digits: &'a mut Buffer) -> (&'a str, &'a str, &'a str, &'a str) {
-        match *self {
+        match self {
             Fault::NotUtf8 => ("input is not UTF-8", "", "", ""),
-            Fault::Line { line, kind } => ("line ", digits.format(line), ": ", kind.as_str()),
+            Fault::Line { line, kind, quoted } => {
+                (
+                    "line ",
+                    digits.format(*line),
+                    quoted.as_str(),
+                    kind.as_str(),
+                )
+            }
         }
     }
 

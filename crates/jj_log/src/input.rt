@@ -6,7 +6,7 @@ ghost use Rattle.jj_log.specs.InputLines.{AreCommitsOf, IsCommitLine, IsFaultOf,
 ghost use Rattle.jj_log.specs.declared.commits.Commit.{Commit};
 
 use crate::commits::Commit;
-use crate::fault::{Fault, LineFault};
+use crate::fault::{Fault, LineFault, fault_at};
 use jj_filter::failure::Failure;
 use std::alloc::{AllocError, Global};
 
@@ -47,16 +47,10 @@ fn parse_line(alloc: Global, number: usize, line: &str) -> Result<Commit, Failur
     ensures error { IfErr result (IsInputFailure (IsLineFault number line.now)) }
 {
     let Some((name, fields)) = line.split_once('\t') else {
-        return Err(Failure::Input(Fault::Line {
-            line: number,
-            kind: LineFault::MissingParents,
-        }));
+        return Err(fault_at(alloc, number, LineFault::MissingParents, line));
     };
     if !is_name(name) {
-        return Err(Failure::Input(Fault::Line {
-            line: number,
-            kind: LineFault::BadName,
-        }));
+        return Err(fault_at(alloc, number, LineFault::BadName, line));
     }
     let (field, label) = match fields.split_once('\t') {
         Some((field, label)) => (field, Some(String::from_str(alloc, label)?)),

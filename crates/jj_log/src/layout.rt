@@ -10,9 +10,6 @@ use crate::fault::LogError;
 use jj_walks::graph::{GraphEdge, GraphNode};
 use std::alloc::{AllocError, Global};
 
-/// The most columns in a line of a drawing.
-pub const MAX_COLUMNS: usize = 500;
-
 /// How a column ends below a node. The columns to its right move to the left.
 #[derive(Clone, Copy, Debug, PartialEq, Eq)]
 pub enum ColumnEnd {
@@ -119,24 +116,25 @@ fn first_ends(
 }
 
 /// Replaces the column of a node by those of its edges, and returns the row of the node. Takes
-/// `O(c + MAX_COLUMNS (e + 1))` for c columns and e edges, and `O(c)` if it fails with `TooWide`:
-/// the edges of the node need more than `MAX_COLUMNS` columns. Fails with `Memory` if memory runs
+/// `O(c + max_columns (e + 1))` for c columns and e edges, and `O(c)` if it fails with `TooWide`:
+/// the edges of the node need more than `max_columns` columns. Fails with `Memory` if memory runs
 /// out.
 pub fn lay_out(
     alloc: Global,
     columns: &mut Vec<usize>,
     node: usize,
     edges: Vec<GraphEdge<usize>>,
+    max_columns: usize,
 ) -> Result<Row, LogError>
     ensures node { IfOk result (λ row. node_of_row row ≡ (node, edges.items)) }
-    ensures row { IfOk result (λ row. IsRow columns.old.items row columns.new.items) }
+    ensures row { IfOk result (λ row. IsRow max_columns columns.old.items row columns.new.items) }
     ensures error { IfErr result (λ error. (error ≡ LogError.Memory)
         ⊎ ((error ≡ LogError.TooWide node)
-        × (MAX_COLUMNS < widest_line columns.old.items (node, edges.items)))) }
+        × (max_columns < widest_line columns.old.items (node, edges.items)))) }
 {
     let column = open(columns, node)?;
     let width = columns.len();
-    if width.saturating_add(edges.len().saturating_sub(1)) > MAX_COLUMNS {
+    if width.saturating_add(edges.len().saturating_sub(1)) > max_columns {
         return Err(LogError::TooWide(node));
     }
     let mut right = Vec::from_slice(alloc, &columns[column + 1..])?;
@@ -153,19 +151,24 @@ pub fn lay_out(
     })
 }
 
-/// Lays out nodes in rows, in `O(MAX_COLUMNS (n + e))` for n nodes with e edges. Fails with
-/// `TooWide` of a node that needs more than `MAX_COLUMNS` columns below those before it, and with
+/// Lays out nodes in rows, in `O(max_columns (n + e))` for n nodes with e edges. Fails with
+/// `TooWide` of a node that needs more than `max_columns` columns below those before it, and with
 /// `Memory` if memory runs out.
-pub fn rows(alloc: Global, nodes: Vec<GraphNode<usize>>) -> Result<Vec<Row>, LogError>
+pub fn rows(
+    alloc: Global,
+    nodes: Vec<GraphNode<usize>>,
+    max_columns: usize,
+) -> Result<Vec<Row>, LogError>
     ensures nodes { IfOk result (λ rows. map node_of_row rows.items
         ≡ map listed_item nodes.items) }
-    ensures columns { IfOk result (λ rows. (last : List ℕ) × AreRows [] rows.items last) }
-    ensures error { IfErr result (IsLayoutError (map listed_item nodes.items)) }
+    ensures columns { IfOk result (λ rows. (last : List ℕ)
+        × AreRows max_columns [] rows.items last) }
+    ensures error { IfErr result (IsLayoutError max_columns (map listed_item nodes.items)) }
 {
     let mut columns = Vec::new(alloc);
     let mut rows = Vec::new(alloc);
     for (node, edges) in nodes {
-        let row = lay_out(alloc, &mut columns, node, edges)?;
+        let row = lay_out(alloc, &mut columns, node, edges, max_columns)?;
         rows.push(row)?;
     }
     Ok(rows)

@@ -19,19 +19,24 @@ use std::alloc::{AllocError, Global};
 /// Returns the log of these commits in rows: each visible commit once, with its edges, and before
 /// its ancestors. Branches are together: a commit is followed by the last target whose children all
 /// came before, if there is one. Fails with `Cycle` of a commit on a cycle of parents, with
-/// `TooWide` of the first commit whose row needs more than `MAX_COLUMNS` columns, and with `Memory`
+/// `TooWide` of the first commit whose row needs more than `max_columns` columns, and with `Memory`
 /// if memory runs out.
-pub fn log_rows(alloc: Global, commits: &[NumberedCommit]) -> Result<Vec<Row>, LogError>
+pub fn log_rows(
+    alloc: Global,
+    commits: &[NumberedCommit],
+    max_columns: usize,
+) -> Result<Vec<Row>, LogError>
     // The rows are the visible commits, each once and before its ancestors, branches together, with
     // edges to their nearest visible ancestors and to missing commits.
     ensures log { IfOk result (λ rows. IsGroupedLog commits.now (map node_of_row rows.items)) }
-    // The columns of a row are those that the row before it leaves.
-    ensures columns { IfOk result (λ rows. (last : List ℕ) × AreRows [] rows.items last) }
+    // The columns of a row are those that the row before it leaves, at most `max_columns`.
+    ensures columns { IfOk result (λ rows. (last : List ℕ)
+        × AreRows max_columns [] rows.items last) }
     // An error but `Memory` names a commit on a cycle, or the first one whose row is too wide.
-    ensures error { IfErr result (IsRowsError commits.now) }
+    ensures error { IfErr result (IsRowsError max_columns commits.now) }
 {
     let nodes = log_nodes(alloc, commits)?;
-    rows(alloc, nodes)
+    rows(alloc, nodes, max_columns)
 }
 
 fn label_at(commits: &[Commit], number: usize) -> &str
@@ -60,12 +65,13 @@ pub fn draw_rows(alloc: Global, rows: &[Row], commits: &[Commit]) -> Result<Stri
 
 /// Draws the log of these commits. Fails with `RepeatedName` of an earlier commit if two commits
 /// have one name, with `Cycle` of a commit on a cycle of parents, with `TooWide` of the first
-/// commit whose row needs more than `MAX_COLUMNS` columns, and with `Memory` if memory runs out.
-pub fn draw_log(alloc: Global, commits: &[Commit]) -> Result<String, LogError>
-    ensures drawing { IfOk result (λ drawing. IsDrawing commits.now (string_bytes drawing)) }
-    ensures error { IfErr result (IsLogError commits.now) }
+/// commit whose row needs more than `max_columns` columns, and with `Memory` if memory runs out.
+pub fn draw_log(alloc: Global, commits: &[Commit], max_columns: usize) -> Result<String, LogError>
+    ensures drawing { IfOk result (λ drawing.
+        IsDrawing max_columns commits.now (string_bytes drawing)) }
+    ensures error { IfErr result (IsLogError max_columns commits.now) }
 {
     let numbered = number_commits(alloc, commits)?;
-    let rows = log_rows(alloc, &numbered)?;
+    let rows = log_rows(alloc, &numbered, max_columns)?;
     Ok(draw_rows(alloc, &rows, commits)?)
 }

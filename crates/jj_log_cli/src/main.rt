@@ -15,7 +15,7 @@ fn main(rt: HostRuntime) -> ExitCode {
         Err(error) => return ExitCode::from(write_report(&mut errors, program::NAME, &error)),
     };
     let stdin = rt.stdin();
-    if words.is_empty() && stdin.is_terminal() {
+    if program::reads(&words) && stdin.is_terminal() {
         let _ = eprintln!(rt; "jj-log: reads commits, a line each, up to Ctrl-D");
     }
     let mut reader = Watched::new(stdin);

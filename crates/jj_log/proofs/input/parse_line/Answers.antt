@@ -1,16 +1,17 @@
 use Rattle.std.proofs.Common.{◌≡◌, refl, lit<, MatchOption, string_bytes}
 use Rattle.jj_log.specs.InputLines.{IsCutAt, Lacks}
-use Rattle.jj_log.proofs.ReadLines.{cut_at, uncut, commit_line}
+use Rattle.jj_log.proofs.ReadLines.{bad_line, cut_at, uncut, commit_line}
+use Rattle.jj_log.specs.declared.fault.LineFault.TheVariants.{MissingParents, BadName}
 use Rattle.jj_log.proofs.input.parse_line.Goals as goal
 use Rattle.jj_log.proofs.input.parse_line.Goals.{in-Some-split_once+in_ok-from_str-in-Some-split_once, in-None}
 
 pub returns-in_default-clause-error : goal.returns-in_default-clause-error
-returns-in_default-clause-error c = (refl, uncut 9 c.args.line.now c.split_once.result (lit< tt) c.split_once.ensures.cases c.in_default.is)
+returns-in_default-clause-error c = bad_line c.args.number c.args.line.now MissingParents (uncut 9 c.args.line.now c.split_once.result (lit< tt) c.split_once.ensures.cases c.in_default.is) c.fault_at.result c.fault_at.ensures
 
 pub returns-then-not-is_name-clause-error : goal.returns-then-not-is_name-clause-error
 returns-then-not-is_name-clause-error c =
     let cut = cut_at 9 c.args.line.now c.split_once.result (c.in-Some.name, c.in-Some.fields) (lit< tt) c.split_once.ensures.cases c.in-Some.is in
-    (refl, (c.in-Some.name.now, c.in-Some.fields.now, cut, λ name. let good = c.is_name.ensures.1 name in let bad = c.if-not-is_name.true in absurd cc))
+    bad_line c.args.number c.args.line.now BadName (c.in-Some.name.now, c.in-Some.fields.now, cut, λ name. let good = c.is_name.ensures.1 name in let bad = c.if-not-is_name.true in absurd cc) c.fault_at-then-not-is_name.result c.fault_at-then-not-is_name.ensures
 
 pub returns-clause-commit : goal.returns-clause-commit
 returns-clause-commit c =

@@ -29,5 +29,5 @@ returns-clause-row c =
       column = is;
       pending = row_pending before c.args.node column c.args.edges.items c.settle_all.new.right.items c.extend_from_slice.new.self.items within is settles whole;
       once = row_once before c.args.node column c.args.edges.items c.settle_all.new.right.items c.extend_from_slice.new.self.items within is settles whole;
-      fits = omega (arith, ap length opens, c.len-width.ensures, c.len.ensures, c.saturating_sub.ensures, c.saturating_add.ensures, c.if-saturating_add-gt-MAX_COLUMNS.false);
+      fits = omega (arith, ap length opens, c.len-width.ensures, c.len.ensures, c.saturating_sub.ensures, c.saturating_add.ensures, c.if-saturating_add-max_columns.false);
     }

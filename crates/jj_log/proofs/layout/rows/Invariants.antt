@@ -9,5 +9,5 @@ invariant-loop-node l = record {
   can : goal.iterator-loop-node.can_next l.node-iterator;
   finite : goal.iterator-loop-node.is_finite l.node-iterator;
   nodes : map node_of_row l.rows.items ≡ map listed_item l.yielded;
-  columns : AreRows [] l.rows.items l.columns.items;
+  columns : AreRows l.max_columns [] l.rows.items l.columns.items;
 }
