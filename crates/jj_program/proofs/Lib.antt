@@ -26,11 +26,11 @@ pub mod Inputs
 pub mod SamePaths
 pub mod Numbers
 pub mod RequestedIds
-pub mod ListedGraphs
-pub mod ListedEdges
 pub mod Numberings
 pub mod NumberedWalks
-pub mod GraphClosures
+pub mod ListedEdges
+pub mod RenamedGraphs
+pub mod ListedGraphs
 pub mod UniqueGraphs
 pub mod HexBytes
 pub mod HashContent

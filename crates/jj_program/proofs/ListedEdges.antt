@@ -1,20 +1,18 @@
 -- Adjacency lists as parts of one array: what one more line adds, and that the array has all neighbors.
-use Rattle.std.proofs.Common.{rules, Equal, Greater, Less, nat_lt, ◌≡◌, ◌∙◌, ◌==◌, ◌-◌, ◌<◌, ◌≤◌, ℕ, Bool, true, false, cond, List, [], ◌++◌, length, length-append, get_or, take, drop, map, Option, Some, None, refl, sym, ap, subst, arith}
+use Rattle.std.proofs.Common.{rules, Equal, Greater, Less, nat_lt, ◌≡◌, ◌∙◌, ◌==◌, ◌-◌, ◌<◌, ◌≤◌, ℕ, Bool, true, false, cond, List, [], ◌++◌, length, length-append, get_or, take, drop, Option, Some, None, refl, sym, ap, arith}
 use Rattle.std.specs.Prelude.{All, unwrap_or}
 use Rattle.std.specs.BTreeMap.{BTreeMap, get, is_at}
-use Rattle.std.specs.List.{Contains, list_any, slice_range}
+use Rattle.std.specs.List.{Contains, slice_range}
 use Rattle.std.specs.Option.{option_map}
 use Rattle.std.specs.Ordering.{is_eq, nat_cmp}
 use Rattle.std.proofs.lemmas.Bool.{ne_eqb}
 use Rattle.std.proofs.Math.Seq.{drop-append_seam}
-use Rattle.std.proofs.lemmas.List.{get_or-map, drop-append-le, drop-map, length-drop, take-append-drop, take-append-le, take-map, take_all}
-use Rattle.std.proofs.lemmas.List.Elements.{All-contains, Contains-append_left, Contains-append_right}
-use Rattle.jj_dag.proofs.Walking.{has, has-from_Contains, Contains-from_has}
+use Rattle.std.proofs.lemmas.List.{drop-append-le, length-drop, take-append-drop, take-append-le, take_all}
+use Rattle.std.proofs.lemmas.List.Elements.{All-contains, Contains-append_left, Contains-append_right, Contains-get_or}
 use Rattle.jj_program.specs.GraphViews.{listed_by, part_at}
 use Rattle.jj_program.specs.GraphCommand.{graph_of}
-use Rattle.jj_program.specs.Parts.{HoldsEach, id_of, AreParts, entry_part, part_in, Part}
+use Rattle.jj_program.specs.Parts.{AreParts, entry_part, part_in, Part}
 use Rattle.jj_program.specs.declared.edges.Edges.{Edges}
-use Rattle.jj_program.proofs.ListedGraphs.{HoldsNeighbors}
 
 -- ---- parts
 
@@ -109,48 +107,36 @@ part_among targets a b x among =
     rw (← take-append-drop a targets) (Contains-append_right (take a targets) (drop a targets) x
     (rw (← take-append-drop (b - a) (drop a targets)) (Contains-append_left (take (b - a) (drop a targets)) (drop (b - a) (drop a targets)) x among)))
 
-pub edges_hold : (edges : Edges) → HoldsNeighbors (graph_of (listed_by edges)) edges.targets.items
-edges_hold edges a b = by_part (part_in edges.limit edges.table.items edges.others a)
+-- each neighbor is in the array
+neighbors_among : (edges : Edges) (a b : ℕ) → Contains (graph_of (listed_by edges) a) b → Contains edges.targets.items b
+neighbors_among edges a b = by_part (part_in edges.limit edges.table.items edges.others a)
   where
-    by_part : (o : Option Part) → Contains (unwrap_or (option_map (part_of edges.targets.items) o) []) b → list_any (λ id. b == id) edges.targets.items ≡ true
+    by_part : (o : Option Part) → Contains (unwrap_or (option_map (part_of edges.targets.items) o) []) b → Contains edges.targets.items b
     by_part None (k, within, e) = absurd (omega arith)
-    by_part (Some part) among = has-from_Contains edges.targets.items b (part_among edges.targets.items part.0 part.1 b among)
+    by_part (Some part) among = part_among edges.targets.items part.0 part.1 b among
 
--- ids that contain the targets contain each neighbor
-pub holds_more : (edges : Edges) (ids : List ℕ) → HoldsEach edges.targets.items ids → HoldsNeighbors (graph_of (listed_by edges)) ids
-holds_more edges ids held a b among = held b (Contains-from_has edges.targets.items b (edges_hold edges a b among))
+-- ids that contain the array contain each neighbor
+pub neighbors_named : (edges : Edges) (ids : List ℕ) → All (Contains ids) edges.targets.items → (a b : ℕ) → Contains (graph_of (listed_by edges) a) b → Contains ids b
+neighbors_named edges ids named a b among = All-contains (Contains ids) edges.targets.items b named (neighbors_among edges a b among)
 
-pub holds_each : (ids some : List ℕ) → All (Contains ids) some → HoldsEach some ids
-holds_each ids some held b among = has-from_Contains ids b (All-contains (Contains ids) some b held among)
+-- and so do the neighbors of an id
+pub row_named : (edges : Edges) (ids : List ℕ) (id : ℕ) → All (Contains ids) edges.targets.items → All (Contains ids) (graph_of (listed_by edges) id)
+row_named edges ids id named k d within =
+    let row = graph_of (listed_by edges) id in
+    neighbors_named edges ids named id (get_or row k d) (Contains-get_or row k d within)
 
--- numbers of targets are nodes
-pub targets_named : (ids numbers targets : List ℕ) → map (id_of ids) numbers ≡ targets → HoldsEach targets ids → (a : ℕ) → Contains (map (id_of ids) numbers) a → has ids a ≡ true
-targets_named ids numbers targets same held a inside = held a (subst (λ xs. Contains xs a) same inside)
-
--- the numbers in the part of an id are those of its neighbors
-pub part_named : (edges : Edges) (name : ℕ → ℕ) (numbers : List ℕ) (id : ℕ) (part : ℕ × ℕ) → map name numbers ≡ edges.targets.items → part ≡ part_at edges id
-    → map name (slice_range numbers part.0 part.1) ≡ graph_of (listed_by edges) id
-part_named edges name numbers id part named at =
-    sym (take-map name (part.1 - part.0) (drop part.0 numbers))
-    ∙ ap (take (part.1 - part.0)) (sym (drop-map name part.0 numbers))
-    ∙ ap (λ l. slice_range l part.0 part.1) named
-    ∙ ap (part_of edges.targets.items) at
-    ∙ by_part (part_in edges.limit edges.table.items edges.others id)
+-- the part of an id has its neighbors
+pub part_listed : (edges : Edges) (id : ℕ) (part : Part) → part ≡ part_at edges id → slice_range edges.targets.items part.0 part.1 ≡ graph_of (listed_by edges) id
+part_listed edges id part at = ap (part_of edges.targets.items) at ∙ by_part (part_in edges.limit edges.table.items edges.others id)
   where
     by_part : (o : Option Part) → part_of edges.targets.items (unwrap_or o (0, 0)) ≡ unwrap_or (option_map (part_of edges.targets.items) o) []
     by_part None = refl
     by_part (Some p) = refl
 
 -- the part of an id is in range
-pub part_within : (edges : Edges) (id : ℕ) (part : ℕ × ℕ) → part ≡ part_at edges id → (part.0 ≤ part.1) × (part.1 ≤ length edges.targets.items)
+pub part_within : (edges : Edges) (id : ℕ) (part : Part) → part ≡ part_at edges id → (part.0 ≤ part.1) × (part.1 ≤ length edges.targets.items)
 part_within edges id part at = rw at (by_part (part_in edges.limit edges.table.items edges.others id) refl)
   where
     by_part : (o : Option Part) → part_in edges.limit edges.table.items edges.others id ≡ o → ((unwrap_or o (0, 0)).0 ≤ (unwrap_or o (0, 0)).1) × ((unwrap_or o (0, 0)).1 ≤ length edges.targets.items)
     by_part None is = (omega arith, omega arith)
     by_part (Some p) is = edges.within id p is
-
--- the part of a number is that of its id
-pub part_of_number : (edges : Edges) (ids : List ℕ) (parts : List Part) (number : ℕ) (d : ℕ × ℕ) → parts ≡ map (part_at edges) ids → number < length ids
-    → get_or parts number d ≡ part_at edges (get_or ids number 0)
-part_of_number edges ids parts number d parted within =
-    ap (λ l. get_or l number d) parted ∙ get_or-map (part_at edges) ids number 0 d within

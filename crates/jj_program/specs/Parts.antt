@@ -1,8 +1,8 @@
 -- Adjacency lists as parts of one array, and dense numbers of ids.
 -- Machinery of private functions and fields.
-use Rattle.std.specs.Prelude.{◌≡◌, ◌==◌, ◌<◌, ◌≤◌, ℕ, List, Option, Some, None, true, ◌+◌, suc, cond, length, get_or, nat_lt}
+use Rattle.std.specs.Prelude.{◌≡◌, ◌<◌, ◌≤◌, ℕ, List, [], Option, Some, None, ◌+◌, suc, cond, length, get_or, nat_lt, slice_index_or}
 use Rattle.std.specs.BTreeMap.{BTreeMap, get}
-use Rattle.std.specs.List.{Contains, list_any, sum_by}
+use Rattle.std.specs.List.{Contains, sum_by}
 use Rattle.std.specs.Ordering.{nat_cmp}
 
 -- 1. Parts, by a table of the ids below a limit and a map of the others.
@@ -27,9 +27,10 @@ AreParts part_of n = (id : ℕ) (part : Part) → part_of id ≡ Some part
 
 -- 2. Numbers.
 
--- each of the first ids is one of the second
-abbrev pub HoldsEach : List ℕ → List ℕ → Type 0
-HoldsEach some ids = (b : ℕ) → Contains some b → list_any (λ id. b == id) ids ≡ true
+-- edges of the graph of these lists are between numbers of these ids
+abbrev pub AreWithin : List ℕ → List (List ℕ) → Type 0
+AreWithin ids lists = (a b : ℕ) → Contains (slice_index_or lists a []) b
+    → (a < length ids) × (b < length ids)
 
 -- the number of an id in a sorted list
 abbrev pub IsNumberOf : List ℕ → ℕ → ℕ → Type 0

@@ -1,5 +1,5 @@
 //! The adjacency lists of the input, as parts of one array.
-ghost use Rattle.std.specs.Prelude.{◌≡◌, ◌==◌, ◌<◌, ◌+◌, ◌^◌, ℕ, IsTrue, MatchResult, Some, None, cond, get_or, is_some, length, map, not, IfOk};
+ghost use Rattle.std.specs.Prelude.{◌≡◌, ◌==◌, ◌<◌, ◌+◌, ◌^◌, ℕ, IsTrue, MatchResult, Some, None, cond, get_or, is_some, length, not, IfOk};
 ghost use Rattle.jj_program.specs.Parts.{AreParts, entry_part, part_in};
 
 use std::alloc::{AllocError, Global};
@@ -20,6 +20,7 @@ pub(crate) struct Edges {
 }
 
 impl Edges {
+    ghost use Rattle.jj_program.specs.GraphCommand.{graph_of};
     ghost use Rattle.jj_program.specs.GraphViews.{listed_by, part_at};
 
     // Creates it without lists.
@@ -63,19 +64,12 @@ impl Edges {
         &self.targets
     }
 
-    // Returns the parts of these ids.
-    pub(crate) fn parts_of(
-        &self,
-        alloc: Global,
-        ids: &[u64],
-    ) -> Result<Vec<(usize, usize)>, AllocError>
-        ensures { IfOk result (λ parts. parts.items ≡ map (part_at self.now) ids.now) }
+    // Returns the neighbors of an id; none if it has no list.
+    pub(crate) fn neighbors_of(&self, id: u64) -> &[u64]
+        ensures { result.now ≡ graph_of (listed_by self.now) id }
     {
-        let mut parts = Vec::with_capacity(alloc, ids.len())?;
-        for id in ids {
-            parts.push(self.part(*id))?;
-        }
-        Ok(parts)
+        let (start, end) = self.part(id);
+        &self.targets[start..end]
     }
 
     // Returns the part of an id.

@@ -4,16 +4,17 @@ ghost use Rattle.std.specs.Prelude.{◌≡◌, ◌↔◌, ◌<◌, ◌++◌, ℕ
 ghost use Rattle.std.specs.List.{Contains};
 ghost use Rattle.std.specs.Str.Parse.{digits_value};
 ghost use Rattle.jj_program.specs.Lines.{IsFaultOf, Agrees};
-ghost use Rattle.jj_program.specs.ListedGraphs.{named_by, shown_by};
+ghost use Rattle.jj_dag.specs.Graph.{Graph};
+ghost use Rattle.jj_program.specs.ListedGraphs.{Represents, named_by, numbered_by};
 ghost use Rattle.jj_program.specs.GraphCommand.{GraphState, HasCycle, is_number, IsLineOfRequest, IsGraphResult, graph_state, graph_step, number_kind, numbers_line, with_node, with_request};
 ghost use Rattle.jj_program.specs.GraphViews.{IsPlain, ids_of, graph_request_of, graph_state_of};
 
 use crate::edges::Edges;
 use crate::fault::{Fault, LineFault};
 use crate::forms::{Field, LineValues, Shape, parse_line};
-use crate::graph_walks::{Visited, ascending_common, ascending_heads, greatest_order, has_cycle};
 use crate::lines::{Reading, take_lines};
 use crate::listed_graph::ListedGraph;
+use jj_dag::array_graph::Visited;
 use jj_filter::failure::Failure;
 use std::alloc::{AllocError, Global};
 
@@ -185,9 +186,9 @@ pub(crate) fn graph_output(alloc: Global, text: &str) -> Result<Vec<u8>, Failure
         return Ok(Vec::new(alloc));
     }
     let requested = requested_ids(alloc, &requests)?;
-    let graph = ListedGraph::new(alloc, edges, &requested)?;
+    let graph = ListedGraph::new(alloc, &edges, &requested)?;
     let mut visited = Visited::new(alloc);
-    let cyclic = has_cycle(alloc, &graph)?;
+    let cyclic = graph.has_cycle(alloc)?;
     let mut output = String::new(alloc);
     for request in &requests {
         if cyclic {
@@ -234,23 +235,24 @@ fn push_result(
     graph: &ListedGraph,
     request: &GraphRequest,
 ) -> Result<(), AllocError>
-    requires acyclic { ¬ (HasCycle (shown_by graph.now)) }
+    requires acyclic { ¬ (HasCycle (numbered_by graph.now)) }
     requires named { All (Contains (named_by graph.now)) (ids_of (graph_request_of request.now)) }
     ensures { OnOk result ((line : List ℕ)
-        × IsLineOfRequest (shown_by graph.now) (graph_request_of request.now) line
+        × ((shown : Graph) → Represents graph.now shown
+        → IsLineOfRequest shown (graph_request_of request.now) line)
         × (string_bytes output.new ≡ string_bytes output.old ++ line)) }
 {
     match request {
         GraphRequest::Order(ids) => {
-            let order = greatest_order(alloc, visited, graph, ids)?;
+            let order = graph.greatest_order(alloc, visited, ids)?;
             push_numbers(output, "order", &order)
         }
         GraphRequest::Heads(ids) => {
-            let heads = ascending_heads(alloc, visited, graph, ids)?;
+            let heads = graph.heads(alloc, visited, ids)?;
             push_numbers(output, "heads", &heads)
         }
         GraphRequest::Common(set1, set2) => {
-            let common = ascending_common(alloc, visited, graph, set1, set2)?;
+            let common = graph.closest_common_nodes(alloc, visited, set1, set2)?;
             push_numbers(output, "common", &common)
         }
     }

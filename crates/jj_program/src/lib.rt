@@ -7,7 +7,6 @@ mod fault;
 mod file_set;
 mod forms;
 mod graph_command;
-mod graph_walks;
 mod hash_command;
 pub mod laws;
 mod lines;

@@ -89,7 +89,7 @@ impl Numbering {
 
     // Returns the index of an id, which is looked for at the id itself and beside the index `near`
     // first; unspecified for an id that is not in the list.
-    fn number(&self, near: usize, id: u64) -> usize
+    pub(crate) fn number(&self, near: usize, id: u64) -> usize
         ensures { Contains self.now.ids.items id → IsNumberOf self.now.ids.items id result }
     {
         let own = id as usize;

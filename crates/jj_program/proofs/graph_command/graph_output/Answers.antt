@@ -4,28 +4,29 @@ use Rattle.std.specs.List.{Contains}
 use Rattle.std.proofs.lemmas.List.Elements.{All-contains, All-weaker}
 use Rattle.std.proofs.lemmas.List.{nil_from_length, take_all}
 use Rattle.jj_program.specs.Lines.{after_lines, line_text, lines_of, AreLinesOf}
-use Rattle.jj_program.specs.ListedGraphs.{named_by, shown_by}
+use Rattle.jj_program.specs.ListedGraphs.{named_by}
 use Rattle.jj_program.specs.GraphCommand.{GraphState, IsGraphLine, graph_of, graph_step}
 use Rattle.jj_program.specs.GraphViews.{ids_of, graph_request_of, graph_state_of}
+use Rattle.jj_program.proofs.ListedGraphs.{cycle_numbered, cycle_shown}
 use Rattle.jj_program.proofs.Requests.{AreLinesOf-more}
 use Rattle.jj_program.proofs.graph_command.graph_output.Goals as goal
 use Rattle.jj_program.proofs.graph_command.graph_output.Goals.{then-cyclic+in_ok-push_str, else-cyclic+in_ok-push_result}
 
 pub loop-request-preserved : goal.loop-request-preserved
-loop-request-preserved c =
-    let graph = shown_by c.in_ok-graph.graph in
+loop-request-preserved c = λ shown is_shown.
+    let graph = c.in_ok-graph.graph in
     let items = c.deref-request-items.result.now in
     let i = c.loop-request.request-index in
     let within : i < length items = omega arith in
     let old = string_bytes c.loop-request.output in
-    let more = λ (grown answer : List ℕ) (is : IsGraphLine graph (graph_request_of c.request-item.result) answer) (written : grown ≡ old ++ answer).
-    AreLinesOf-more (IsGraphLine graph) graph_request_of items i c.request-item.result old grown answer within c.request-item.is c.loop-request.invariant is written in
+    let more = λ (grown answer : List ℕ) (is : IsGraphLine shown (graph_request_of c.request-item.result) answer) (written : grown ≡ old ++ answer).
+    AreLinesOf-more (IsGraphLine shown) graph_request_of items i c.request-item.result old grown answer within c.request-item.is (c.loop-request.invariant shown is_shown) is written in
     elim c.if-cyclic.branch [
       | then-cyclic+in_ok-push_str w ↦
-          more (string_bytes c.if-cyclic.output) (line_text (codes "cycle") []) (inl ((rw w.if-cyclic.true at c.in_ok-cyclic.ensures), refl)) (ap string_bytes w.output-is ∙ w.in_ok-push_str.ensures.bytes)
+          more (string_bytes c.if-cyclic.output) (line_text (codes "cycle") []) (inl (cycle_shown graph shown is_shown (rw w.if-cyclic.true at c.in_ok-cyclic.ensures), refl)) (ap string_bytes w.output-is ∙ w.in_ok-push_str.ensures.bytes)
       | else-cyclic+in_ok-push_result w ↦
           let (answer, is, written) = w.in_ok-push_result.ensures in
-          more (string_bytes c.if-cyclic.output) answer (inr ((rw w.if-cyclic.false at c.in_ok-cyclic.ensures), is)) (ap string_bytes w.output-is ∙ written)
+          more (string_bytes c.if-cyclic.output) answer (inr ((λ cycle. (rw w.if-cyclic.false at c.in_ok-cyclic.ensures) (cycle_numbered graph shown is_shown cycle)), is shown is_shown)) (ap string_bytes w.output-is ∙ written)
     ]
 
 pub push_result-requires-clause-named : goal.push_result-requires-clause-named
@@ -50,11 +51,9 @@ returns-clause-done c =
     let read = ap (λ s. after_lines graph_step 1 s (lines_of c.args.text.now)) (sym start) ∙ c.in_ok-take_lines.ensures in
     let items = c.deref-request-items.result.now in
     let whole : take c.loop-request.request-index items ≡ reading.requests.items = take_all c.loop-request.request-index items (omega arith) ∙ c.deref-request-items.ensures.value in
-    let shown : shown_by c.in_ok-graph.graph ≡ graph_of state.listed = c.in_ok-graph.ensures.graph in
-    let so_far : AreLinesOf (IsGraphLine (shown_by c.in_ok-graph.graph)) (map graph_request_of (take c.loop-request.request-index items)) (string_bytes c.loop-request.output) = c.loop-request.invariant in
     let answered : AreLinesOf (IsGraphLine (graph_of state.listed)) state.requests (string_bytes c.loop-request.output) =
     subst (λ requests. AreLinesOf (IsGraphLine (graph_of state.listed)) (map graph_request_of requests) (string_bytes c.loop-request.output)) whole
-    (subst (λ graph. AreLinesOf (IsGraphLine graph) (map graph_request_of (take c.loop-request.request-index items)) (string_bytes c.loop-request.output)) shown so_far) in
+    (c.loop-request.invariant (graph_of state.listed) c.in_ok-graph.ensures.graph) in
     (state, read, subst (AreLinesOf (IsGraphLine (graph_of state.listed)) state.requests) (sym (ap (λ v. v.items) c.into_bytes.ensures.value)) answered)
 
 pub returns-then-is_empty-clause-done : goal.returns-then-is_empty-clause-done

@@ -1,21 +1,28 @@
-use Rattle.std.proofs.Common.{◌∙◌, ap, map, subst, sym}
-use Rattle.std.specs.Prelude.{All}
+use Rattle.std.proofs.Common.{All, ◌∙◌, ap, map, subst, sym}
 use Rattle.std.specs.List.{Contains}
-use Rattle.jj_program.specs.GraphViews.{part_at}
-use Rattle.jj_program.proofs.ListedEdges.{holds_each}
+use Rattle.jj_dag.specs.PackedLists.{lists_of}
+use Rattle.jj_program.specs.GraphCommand.{graph_of}
+use Rattle.jj_program.specs.GraphViews.{listed_by}
+use Rattle.jj_program.specs.Parts.{AreWithin, id_of}
+use Rattle.jj_program.proofs.ListedEdges.{neighbors_named}
+use Rattle.jj_program.proofs.ListedGraphs.{lists_within}
 use Rattle.jj_program.proofs.listed_graph.ListedGraph.new.Goals as goal
+
+pub numbered_lists-requires : goal.numbered_lists-requires
+numbered_lists-requires c = subst (All (Contains c.in_ok-numbering.numbering.ids.items)) c.targets.ensures c.in_ok-numbering.ensures.targets
 
 pub invariant_of-result : goal.invariant_of-result
 invariant_of-result c =
-    let names = c.in_ok-numbering.numbering.ids.items in
-    let targets = c.args.edges.targets.items in
+    let ids = c.in_ok-numbering.numbering.ids.items in
+    let named = neighbors_named c.args.edges.now ids (subst (All (Contains ids)) c.targets.ensures c.in_ok-numbering.ensures.targets) in
     record {
-      among = holds_each names targets (subst (All (Contains names)) c.targets.ensures c.in_ok-numbering.ensures.targets);
-      numbered = c.in_ok-targets.ensures ∙ c.targets-2.ensures;
-      parted = c.in_ok-parts.ensures ∙ ap (map (part_at c.args.edges)) c.ids.ensures;
+      within = subst (AreWithin ids) (sym c.new-graph.ensures) (lists_within ids (lists_of c.in_ok-lists.lists) (graph_of (listed_by c.args.edges.now)) c.in_ok-lists.ensures named);
     }
 
-pub numbers_of-requires : goal.numbers_of-requires
-numbers_of-requires c =
-    let names = c.in_ok-numbering.numbering.ids.items in
-    subst (All (Contains names)) (sym c.targets-2.ensures) (subst (All (Contains names)) c.targets.ensures c.in_ok-numbering.ensures.targets)
+pub returns-clause-graph : goal.returns-clause-graph
+returns-clause-graph c =
+    let ids = c.in_ok-numbering.numbering.ids.items in
+    record {
+      lists = ap (map (map (id_of ids))) c.new-graph.ensures ∙ c.in_ok-lists.ensures;
+      named = neighbors_named c.args.edges.now ids (subst (All (Contains ids)) c.targets.ensures c.in_ok-numbering.ensures.targets);
+    }
