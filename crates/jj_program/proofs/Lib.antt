@@ -41,7 +41,8 @@ pub mod FirstKinds
 pub mod LineFaults
 pub mod SamePatterns
 pub mod SetCode
-pub mod SetMatchers
+pub mod AlikeSets
+pub mod WalkSteps
 pub mod AlikeMatchers
 pub mod GlobFields
 pub mod SetVisits

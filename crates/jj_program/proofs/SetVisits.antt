@@ -13,11 +13,11 @@ use Rattle.jj_matchers.proofs.MentionedNames.{chosen_left, chosen_right, union_c
 use Rattle.jj_matchers.proofs.PatternSound.{patterns_sound, patterns_choose}
 use Rattle.jj_program.specs.declared.file_set.Combination.{Combination}
 use Rattle.jj_program.specs.declared.file_set.Combination.TheVariants.{Union, Difference, Intersection}
-use Rattle.jj_program.specs.declared.file_set.SetOp.{SetOp}
-use Rattle.jj_program.specs.declared.file_set.SetOp.TheVariants.{Combine}
+use Rattle.jj_program.specs.declared.file_set.CodeStep.{CodeStep}
+use Rattle.jj_program.specs.declared.file_set.CodeStep.TheVariants.{Combine}
 use Rattle.jj_program.specs.declared.file_set.matcher.FileSet.{FileSet}
 use Rattle.jj_program.specs.declared.file_set.matcher.FileSet.TheVariants.{Everything, Nothing as Nothing', Files, Prefix, Globs}
-use Rattle.jj_program.specs.SetCode.{made_by, visits_at, stack_of}
+use Rattle.jj_program.specs.SetCode.{made_by, visits_at, left_by}
 use Rattle.jj_program.specs.WalkCommand.{SetTree, one, both, combined_stack, MatcherSpec, combined_spec, leaf_spec, spec_of}
 use Rattle.jj_program.proofs.SetCode.{reverse_more}
 
@@ -68,12 +68,12 @@ abbrev at : Path → List (SetTree FileSet) → List VisitSpec
 at dir sets = map (λ set. (spec_of set).visits dir) sets
 
 -- the top two are combined
-pub combine_two : (dir : Path) (k : Combination) (earlier : List (SetOp FileSet)) (second first visit : SortedVisit) (old mid rest new : List SortedVisit) → old ≡ mid ++ second ∷ [] → mid ≡ rest ++ first ∷ [] → new ≡ rest ++ visit ∷ [] →
+pub combine_two : (dir : Path) (k : Combination) (earlier : List CodeStep) (second first visit : SortedVisit) (old mid rest new : List SortedVisit) → old ≡ mid ++ second ∷ [] → mid ≡ rest ++ first ∷ [] → new ≡ rest ++ visit ∷ [] →
     ((dir : Path) (a b : SetTree FileSet) → sorted_visit_spec first ≡ (spec_of a).visits dir → sorted_visit_spec second ≡ (spec_of b).visits dir → sorted_visit_spec visit ≡ (spec_of (both k a b)).visits dir) →
     map sorted_visit_spec (reverse old) ≡ visits_at dir earlier → map sorted_visit_spec (reverse new) ≡ visits_at dir (Combine k ∷ earlier)
 combine_two dir k earlier second first visit old mid rest new e f g combined h =
     let before : reverse old ≡ second ∷ first ∷ reverse rest = ap reverse e ∙ reverse_more mid second ∙ ap (λ l. second ∷ l) (ap reverse f ∙ reverse_more rest first) in
-    ap (map sorted_visit_spec) (ap reverse g ∙ reverse_more rest visit) ∙ two (stack_of earlier) (sym (ap (map sorted_visit_spec) before) ∙ h)
+    ap (map sorted_visit_spec) (ap reverse g ∙ reverse_more rest visit) ∙ two (left_by earlier) (sym (ap (map sorted_visit_spec) before) ∙ h)
   where
     two : (stack : List (SetTree FileSet)) → sorted_visit_spec second ∷ sorted_visit_spec first ∷ map sorted_visit_spec (reverse rest) ≡ at dir stack → sorted_visit_spec visit ∷ map sorted_visit_spec (reverse rest) ≡ at dir (combined_stack k stack)
     two [] e = cc
@@ -85,15 +85,15 @@ combine_two dir k earlier second first visit old mid rest new e f g combined h =
         (λ i. combined dir a b is_first is_second i ∷ others i)
 
 -- the top visit is that of the top set; an empty stack visits nothing
-pub visit_top : (dir : Path) (code : List (SetOp FileSet)) (visits rest : List SortedVisit) (visit : SortedVisit) → visits ≡ rest ++ visit ∷ [] → map sorted_visit_spec (reverse visits) ≡ visits_at dir code → sorted_visit_spec visit ≡ (spec_of (made_by code)).visits dir
-visit_top dir code visits rest visit is h = top (stack_of code) (sym (ap (map sorted_visit_spec) (ap reverse is ∙ reverse_more rest visit)) ∙ h)
+pub visit_top : (dir : Path) (code : List CodeStep) (visits rest : List SortedVisit) (visit : SortedVisit) → visits ≡ rest ++ visit ∷ [] → map sorted_visit_spec (reverse visits) ≡ visits_at dir code → sorted_visit_spec visit ≡ (spec_of (made_by code)).visits dir
+visit_top dir code visits rest visit is h = top (left_by code) (sym (ap (map sorted_visit_spec) (ap reverse is ∙ reverse_more rest visit)) ∙ h)
   where
     top : (stack : List (SetTree FileSet)) → sorted_visit_spec visit ∷ map sorted_visit_spec (reverse rest) ≡ at dir stack → sorted_visit_spec visit ≡ (spec_of (get_or stack 0 (one Nothing'))).visits dir
     top [] e = cc
     top (set ∷ others) e = cc
 
-pub visit_none : (dir : Path) (code : List (SetOp FileSet)) (visits : List SortedVisit) → visits ≡ [] → map sorted_visit_spec (reverse visits) ≡ visits_at dir code → sorted_visit_spec Nothing ≡ (spec_of (made_by code)).visits dir
-visit_none dir code visits is h = top (stack_of code) (sym (ap (λ l. map sorted_visit_spec (reverse l)) is) ∙ h)
+pub visit_none : (dir : Path) (code : List CodeStep) (visits : List SortedVisit) → visits ≡ [] → map sorted_visit_spec (reverse visits) ≡ visits_at dir code → sorted_visit_spec Nothing ≡ (spec_of (made_by code)).visits dir
+visit_none dir code visits is h = top (left_by code) (sym (ap (λ l. map sorted_visit_spec (reverse l)) is) ∙ h)
   where
     top : (stack : List (SetTree FileSet)) → [] ≡ at dir stack → sorted_visit_spec Nothing ≡ (spec_of (get_or stack 0 (one Nothing'))).visits dir
     top [] e = refl

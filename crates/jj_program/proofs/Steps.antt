@@ -1,11 +1,12 @@
 -- The first line of an input and its fault; the remaining items of a list.
 use Rattle.std.proofs.Common.{◌≡◌, ℕ, ◌<◌, List, [], ◌∷◌, Result, Ok, Err, ◌+◌, map, drop, drop-cons, add-one, suc, get_or, length, refl, ap, sym, ◌∙◌}
+use Rattle.std.specs.Prelude.{MatchResult}
 use Rattle.std.proofs.lemmas.List.{drop-map}
 use Rattle.jj_program.specs.declared.fault.LineFault.{LineFault}
 use Rattle.jj_program.specs.declared.fault.Fault.{Fault}
 use Rattle.jj_filter.specs.declared.failure.Failure.{Failure}
 use Rattle.jj_filter.specs.declared.failure.Failure.TheVariants.{ReadInput, Memory, WriteOutput, Input}
-use Rattle.jj_program.specs.Lines.{lines_of, after_line, after_lines, result_and_then, IsFaultOf}
+use Rattle.jj_program.specs.Lines.{lines_of, after_line, after_lines, result_and_then, IsFaultOf, LeadsTo}
 
 -- the models of the items after the first i
 pub drop_map_next : {A : Type 0} (view : A → List ℕ) (items : List A) (i : ℕ) (d : A) → i < length items
@@ -19,7 +20,7 @@ pub record IsFirstLine (text line behind : List ℕ) : Type 0 where
   pub shorter : length behind < length text
 
 -- a line's fault is that of the remaining lines
-pub IsFaultOf-first : {S : Type 0} (fault : Failure Fault) (first : Result S Fault) (more : S → Result S Fault) (whole : Result S Fault)
+pub IsFaultOf-first : {S T : Type 0} (fault : Failure Fault) (first : Result S Fault) (more : S → Result T Fault) (whole : Result T Fault)
     → result_and_then first more ≡ whole → IsFaultOf fault first → IsFaultOf fault whole
 IsFaultOf-first Memory first more whole e h = tt
 IsFaultOf-first ReadInput first more whole e h = h
@@ -49,3 +50,9 @@ module _ {S : Type 0} (step : S → List (List ℕ) → Result S LineFault) wher
   pub last_line : (number : ℕ) (state : S) (text : List ℕ) (whole : Result S Fault) → lines_of text ≡ text ∷ []
       → after_lines step number state (lines_of text) ≡ whole → after_line step number state text ≡ whole
   last_line number state text whole one all = sym (last_of number (after_line step number state text)) ∙ sym (ap (after_lines step number state) one) ∙ all
+
+-- a state that is a function of the value
+pub leads_to : {V F S : Type 0} (result : Result V (Failure F)) (reached : S) (expected : Result S F) → MatchResult result (λ _. expected ≡ Ok reached) (λ failure. IsFaultOf failure expected)
+    → LeadsTo result (λ state. reached ≡ state) expected
+leads_to (Ok value) reached expected is = (reached, is, refl)
+leads_to (Err failure) reached expected is = is

@@ -69,6 +69,13 @@ texts_of texts = map (λ text. text.now) texts
 abbrev pub IsFaultOf : {A F : Type 0} → Failure F → Result A F → Type 0
 IsFaultOf failure expected = IsInputFailure (λ fault. expected ≡ Err fault) failure
 
+-- the value reached represents the expected state, or the failure is the expected fault or out of
+-- memory
+abbrev pub LeadsTo : {V F S : Type 0} → Result V (Failure F) → (S → Type 0) → Result S F → Type 0
+LeadsTo {S = S} result IsReached expected = MatchResult result
+    (λ _. (state : S) × (expected ≡ Ok state) × IsReached state)
+    (λ failure. IsFaultOf failure expected)
+
 -- the result, mapped to its model by `view`, is the expected one, or out of memory
 abbrev pub Agrees : {V A : Type 0} → Result V (Failure LineFault) → (V → A) → Result A LineFault
     → Type 0

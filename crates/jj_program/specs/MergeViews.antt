@@ -1,42 +1,14 @@
 -- Merges of borrowed strings as private functions see them.
 -- Machinery of private functions and fields.
-use Rattle.std.specs.Prelude.{ℕ, ◌<◌, List, ◌≡◌, ◌+◌, Bool, true, false, not, Option, Some, None, Ok, count_by, drop, length, slice_index_or}
+use Rattle.std.specs.Prelude.{ℕ, ◌<◌, List, ◌≡◌, ◌+◌, Bool, true, false, not, Option, Some, None, count_by, drop, length, slice_index_or}
 use Rattle.std.specs.Cmp.Lexicographic.{slice_cmp}
 use Rattle.std.specs.Ordering.{nat_cmp}
 use Rattle.std.specs.declared.cmp.Ordering.{Ordering}
 use Rattle.jj_merges.specs.Merge.{adds, removes}
-use Rattle.jj_program.specs.declared.fault.Fault.{Fault}
-use Rattle.jj_program.specs.declared.fault.LineFault.{LineFault}
-use Rattle.jj_filter.specs.declared.failure.Failure.{Failure}
-use Rattle.jj_program.specs.MergeCommand.{MergeRequest, IsMergeLine, merge_step}
-use Rattle.jj_program.specs.Lines.{AreLinesOf, IsFaultOf, Text, after_line}
+use Rattle.jj_program.specs.Lines.{Text}
 use Rattle.std.specs.Str.{bytes_eq}
 use Rattle.jj_merges.specs.declared.merge.SameChange.{SameChange}
 use Rattle.jj_merges.specs.Resolution.{ResolvesTo}
-
--- the line with these fields appends the output line of its request to those before it
-abbrev pub PerformsFields : List (List ℕ) → List ℕ → List ℕ → Type 0
-PerformsFields fields old new = (requests : List MergeRequest)
-    → AreLinesOf IsMergeLine requests old
-    → (next : List MergeRequest) × (merge_step requests fields ≡ Ok next)
-    × AreLinesOf IsMergeLine next new
-
--- a line appends the output line of its request to those before it, unless it is empty
-abbrev pub PerformsLine : ℕ → List ℕ → List ℕ → List ℕ → Type 0
-PerformsLine number line old new = (requests : List MergeRequest)
-    → AreLinesOf IsMergeLine requests old
-    → (next : List MergeRequest) × (after_line merge_step number requests line ≡ Ok next)
-    × AreLinesOf IsMergeLine next new
-
--- the fault of the fields of a line, after any requests
-abbrev pub IsFaultOfFields : Failure LineFault → List (List ℕ) → Type 0
-IsFaultOfFields fault fields = (requests : List MergeRequest)
-    → IsFaultOf fault (merge_step requests fields)
-
--- the fault of a line, after any requests
-abbrev pub IsFaultOfLine : Failure Fault → ℕ → List ℕ → Type 0
-IsFaultOfLine fault number line = (requests : List MergeRequest)
-    → IsFaultOf fault (after_line merge_step number requests line)
 
 -- equality of bytes
 abbrev pub text_eq : Text → Text → Bool

@@ -5,14 +5,13 @@ ghost use Rattle.std.specs.Prelude.{◌≡◌, ◌+◌, ◌<◌, ◌≤◌, ◌^
 ghost use Rattle.jj_paths.specs.Names.{path_of};
 ghost use Rattle.jj_program.specs.declared.file_set.SetOp.{SetOp};
 ghost use Rattle.jj_program.specs.WalkCommand.{one, combined_stack};
-ghost use Rattle.jj_program.specs.SetCode.{after_op, code_along, is_decided_by, is_whole, ops_of, pass_over, set_of, sets_of, with_second};
+ghost use Rattle.jj_program.specs.SetCode.{after_step, code_along, is_decided_by, is_whole, pass_over, sets_of, with_second};
 
 mod matcher;
 
-use jj_matchers::matchers::{Matcher, PathGlobPattern};
+use jj_matchers::matchers::Matcher;
 use jj_paths::repo_path::RepoPath;
-use matcher::FileSet;
-pub(crate) use matcher::walk_set;
+pub(crate) use matcher::{FileSet, walk_set};
 use std::alloc::{AllocError, Global};
 
 // The sets that a line can push.
@@ -26,14 +25,6 @@ pub(crate) enum SetWord {
     PrefixGlobs,
 }
 
-// The set that a line pushes; `globs[i]` is relative to `paths[i]`.
-#[derive(Drop)]
-pub(crate) struct SetLine<'t> {
-    pub(crate) word: SetWord,
-    pub(crate) paths: Vec<RepoPath<'t>>,
-    pub(crate) globs: Vec<PathGlobPattern>,
-}
-
 // A combination of two sets; the first operand is the one that was pushed first.
 #[derive(Clone, Copy, Debug, PartialEq, Eq)]
 pub(crate) enum Combination {
@@ -44,27 +35,36 @@ pub(crate) enum Combination {
 
 // An operation on a stack of sets.
 #[derive(Drop)]
-pub(crate) enum SetOp<S> {
+pub(crate) enum SetOp {
     /// Pushes a set.
-    Test(S),
+    Push(FileSet),
+    /// Replaces the top two sets by their combination.
+    Combine(Combination),
+}
+
+// A step of the evaluation of a set.
+#[derive(Drop)]
+pub(crate) enum CodeStep {
+    /// Tests membership in a set.
+    Test(FileSet),
     /// Between the operands of a combination: skips the second if the first determines the result.
     ShortCircuit(Combination),
-    /// Replaces the top two sets by their combination.
+    /// Combines the values of two operands.
     Combine(Combination),
 }
 
 // A stack of sets, stored as the operations that built it, so that combining two sets moves
 // neither.
 #[derive(Drop)]
-pub(crate) struct SetStack<'t> {
-    ops: Vec<SetOp<SetLine<'t>>>,
+pub(crate) struct SetStack {
+    ops: Vec<SetOp>,
     height: usize,
     ghost counted: { height ≡ length (sets_of ops.items) },
-    ghost whole: { is_whole (ops_of ops.items) ≡ true },
+    ghost whole: { is_whole (reverse ops.items) ≡ true },
 }
 
-impl<'t> SetStack<'t> {
-    pub(crate) fn new(alloc: Global) -> SetStack<'t>
+impl SetStack {
+    pub(crate) fn new(alloc: Global) -> SetStack
         ensures { sets_of result.ops.items ≡ [] }
     {
         SetStack {
@@ -79,13 +79,13 @@ impl<'t> SetStack<'t> {
         self.height
     }
 
-    pub(crate) fn push(&mut self, set: SetLine<'t>) -> Result<(), AllocError>
+    pub(crate) fn push(&mut self, set: FileSet) -> Result<(), AllocError>
         ensures { MatchResult result
             (λ done. sets_of self.new.ops.items
-            ≡ one (set_of set.entry) ∷ sets_of self.old.ops.items)
+            ≡ one set ∷ sets_of self.old.ops.items)
             (λ e. sets_of self.new.ops.items ≡ sets_of self.old.ops.items) }
     {
-        self.ops.push(SetOp::Test(set))?;
+        self.ops.push(SetOp::Push(set))?;
         self.height += 1;
         Ok(())
     }
@@ -103,9 +103,9 @@ impl<'t> SetStack<'t> {
         Ok(())
     }
 
-    fn into_ops(self) -> Vec<SetOp<SetLine<'t>>>
-        ensures sets { sets_of result.items ≡ sets_of self.entry.ops.items }
-        ensures whole { is_whole (ops_of result.items) ≡ true }
+    fn into_ops(self) -> Vec<SetOp>
+        ensures sets { sets_of result.items ≡ sets_of self.ops.items }
+        ensures whole { is_whole (reverse result.items) ≡ true }
     {
         let SetStack { ops, height: _ } = self;
         ops
@@ -113,7 +113,7 @@ impl<'t> SetStack<'t> {
 }
 
 // Compiles postfix operations: adds a short circuit between the operands of each combination.
-fn compile<S: Drop>(alloc: Global, mut ops: Vec<SetOp<S>>) -> Result<Vec<SetOp<S>>, AllocError>
+fn compile(alloc: Global, mut ops: Vec<SetOp>) -> Result<Vec<CodeStep>, AllocError>
     ensures { IfOk result (λ code. code.items ≡ code_along [] (reverse ops.items)) }
 {
     let mut code = Vec::new(alloc);
@@ -126,58 +126,57 @@ fn compile<S: Drop>(alloc: Global, mut ops: Vec<SetOp<S>>) -> Result<Vec<SetOp<S
 }
 
 // Compiles the last of the remaining operations.
-fn emit<S: Drop>(
-    op: SetOp<S>,
-    code: &mut Vec<SetOp<S>>,
+fn emit(
+    op: SetOp,
+    code: &mut Vec<CodeStep>,
     pending: &mut Vec<Combination>,
 ) -> Result<(), AllocError>
-    ensures { IfOk result (λ done. (earlier : List (SetOp S))
+    ensures { IfOk result (λ done. (earlier : List SetOp)
         → code.new.items ++ code_along (reverse pending.new.items) earlier ≡ code.old.items
         ++ code_along (reverse pending.old.items) (op ∷ earlier)) }
 {
     match op {
         SetOp::Combine(combination) => {
-            code.push(SetOp::Combine(combination))?;
+            code.push(CodeStep::Combine(combination))?;
             pending.push(combination)?;
             Ok(())
         }
-        SetOp::Test(set) => {
-            code.push(SetOp::Test(set))?;
+        SetOp::Push(set) => {
+            code.push(CodeStep::Test(set))?;
             match pending.pop() {
-                Some(combination) => Ok(code.push(SetOp::ShortCircuit(combination))?),
+                Some(combination) => Ok(code.push(CodeStep::ShortCircuit(combination))?),
                 None => Ok(()),
             }
         }
-        SetOp::ShortCircuit(_) => Ok(()),
     }
 }
 
 // Membership of a file, by one pass over the code. The state is the number of enclosing
 // combinations that are short-circuited, and the value of the last operand.
-fn evaluate(code: &[SetOp<FileSet>], file: RepoPath<'_>) -> bool
+fn evaluate(code: &[CodeStep], file: RepoPath<'_>) -> bool
     ensures { result ≡ (pass_over (path_of file.entry) code.now (0, false)).1 }
 {
     let mut pass = (0, false);
     let mut left = code.len();
     while left > 0 {
         left -= 1;
-        pass = after_op(pass, &code[left], file);
+        pass = after_step(pass, &code[left], file);
     }
     pass.1
 }
 
-fn after_op(pass: (usize, bool), op: &SetOp<FileSet>, file: RepoPath<'_>) -> (usize, bool)
+fn after_step(pass: (usize, bool), step: &CodeStep, file: RepoPath<'_>) -> (usize, bool)
     requires { pass.0 + 1 < 2 ^ 64 }
-    ensures { result ≡ after_op (path_of file.entry) op.now pass.0 pass.1 }
+    ensures { result ≡ after_step (path_of file.entry) step.now pass.0 pass.1 }
 {
     let (skipped, is_in) = pass;
-    match op {
-        SetOp::Test(set) if skipped == 0 => (skipped, set.matches(file)),
-        SetOp::ShortCircuit(combination) if skipped > 0 || combination.is_decided_by(is_in) => {
+    match step {
+        CodeStep::Test(set) if skipped == 0 => (skipped, set.matches(file)),
+        CodeStep::ShortCircuit(combination) if skipped > 0 || combination.is_decided_by(is_in) => {
             (skipped + 1, is_in)
         }
-        SetOp::Combine(combination) if skipped == 0 => (skipped, combination.with_second(is_in)),
-        SetOp::Combine(_) => (skipped - 1, is_in),
+        CodeStep::Combine(combination) if skipped == 0 => (skipped, combination.with_second(is_in)),
+        CodeStep::Combine(_) => (skipped - 1, is_in),
         _ => pass,
     }
 }

@@ -3,7 +3,7 @@
 ghost use Rattle.std.specs.Prelude.{◌≡◌, ◌↔◌, ◌<◌, ◌++◌, ℕ, All, IsTrue, List, None, Some, cond, Ok, IfOk, IfErr, OnOk, length, string_bytes};
 ghost use Rattle.std.specs.List.{Contains};
 ghost use Rattle.std.specs.Str.Parse.{digits_value};
-ghost use Rattle.jj_program.specs.Lines.{IsFaultOf, Agrees};
+ghost use Rattle.jj_program.specs.Lines.{IsFaultOf, Agrees, texts_of};
 ghost use Rattle.jj_dag.specs.Graph.{Graph};
 ghost use Rattle.jj_program.specs.ListedGraphs.{Represents, named_by, numbered_by};
 ghost use Rattle.jj_program.specs.GraphCommand.{GraphState, HasCycle, is_number, IsLineOfRequest, IsGraphResult, graph_state, graph_step, number_kind, numbers_line, with_node, with_request};
@@ -111,6 +111,30 @@ pub(crate) const GRAPH_FORMS: &[(&str, Shape, GraphForm)] = &[
 ];
 
 impl GraphReading {
+    // Performs the action of a line.
+    fn perform(&mut self, alloc: Global, fields: &[&str]) -> Result<(), Failure<LineFault>>
+        ensures { Agrees result (λ _. graph_state_of self.new)
+            (graph_step (graph_state_of self.old) (texts_of fields.now)) }
+    {
+        let form = parse_line::<GraphForm, u64, u64>(alloc, GRAPH_FORMS, fields, &mut self.ids)?;
+        match form {
+            GraphForm::Node => self.list(),
+            GraphForm::Order => {
+                let ids = self.ids.take_firsts(alloc);
+                self.push_request(GraphRequest::Order(ids))
+            }
+            GraphForm::Heads => {
+                let ids = self.ids.take_firsts(alloc);
+                self.push_request(GraphRequest::Heads(ids))
+            }
+            GraphForm::Common => {
+                let set1 = self.ids.take_firsts(alloc);
+                let set2 = self.ids.take_seconds(alloc);
+                self.push_request(GraphRequest::Common(set1, set2))
+            }
+        }
+    }
+
     // Adds the adjacency list of the first id of the line.
     fn list(&mut self) -> Result<(), Failure<LineFault>>
         ensures { Agrees result (λ _. graph_state_of self.new)
@@ -139,28 +163,12 @@ impl GraphReading {
 impl<'t> Reading<'t> for GraphReading {
     ghost State = { GraphState };
 
-    ghost state = { graph_state_of };
+    ghost represents = { λ reading state. graph_state_of reading ≡ state };
 
     ghost step = { graph_step };
 
     fn take(&mut self, alloc: Global, fields: &[&'t str]) -> Result<(), Failure<LineFault>> {
-        let form = parse_line::<GraphForm, u64, u64>(alloc, GRAPH_FORMS, fields, &mut self.ids)?;
-        match form {
-            GraphForm::Node => self.list(),
-            GraphForm::Order => {
-                let ids = self.ids.take_firsts(alloc);
-                self.push_request(GraphRequest::Order(ids))
-            }
-            GraphForm::Heads => {
-                let ids = self.ids.take_firsts(alloc);
-                self.push_request(GraphRequest::Heads(ids))
-            }
-            GraphForm::Common => {
-                let set1 = self.ids.take_firsts(alloc);
-                let set2 = self.ids.take_seconds(alloc);
-                self.push_request(GraphRequest::Common(set1, set2))
-            }
-        }
+        self.perform(alloc, fields)
     }
 }
 

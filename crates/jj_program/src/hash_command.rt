@@ -39,18 +39,28 @@ pub(crate) struct HashReading {
     output: Vec<u8>,
 }
 
-impl<'t> Reading<'t> for HashReading {
-    ghost State = { List ℕ };
-
-    ghost state = { λ reading. reading.output.items };
-
-    ghost step = { hash_step };
-
-    fn take(&mut self, alloc: Global, fields: &[&'t str]) -> Result<(), Failure<LineFault>> {
+impl HashReading {
+    // Appends the digest of a line.
+    fn push_line(&mut self, alloc: Global, fields: &[&str]) -> Result<(), Failure<LineFault>>
+        ensures { Agrees result (λ _. self.new.output.items)
+            (hash_step self.old.output.items (texts_of fields.now)) }
+    {
         let (input, _shape, fields) = form_line(HASH_FORMS, fields)?;
         let digest = input_digest(alloc, input, fields)?;
         push_digest(alloc, &mut self.output, &digest)?;
         Ok(())
+    }
+}
+
+impl<'t> Reading<'t> for HashReading {
+    ghost State = { List ℕ };
+
+    ghost represents = { λ reading output. reading.output.items ≡ output };
+
+    ghost step = { hash_step };
+
+    fn take(&mut self, alloc: Global, fields: &[&'t str]) -> Result<(), Failure<LineFault>> {
+        self.push_line(alloc, fields)
     }
 }
 

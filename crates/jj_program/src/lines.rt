@@ -1,9 +1,9 @@
 //! The line loop that all commands share: splits the input into lines and fields, and passes each
 //! nonempty line to the command. The format of output lines.
-ghost use Rattle.std.specs.Prelude.{◌≡◌, ◌==◌, ◌||◌, ◌+◌, ◌++◌, ◌<◌, ◌≤◌, get_or, length, map, false, List, ℕ, Result, Ok, IfOk, MatchResult, OnOk};
+ghost use Rattle.std.specs.Prelude.{◌≡◌, ◌==◌, ◌||◌, ◌+◌, ◌++◌, ◌<◌, ◌≤◌, get_or, length, map, false, List, ℕ, Result, IfOk, OnOk};
 ghost use Rattle.std.specs.List.{before_first, position_or_len};
 ghost use Rattle.jj_program.specs.declared.fault.LineFault.{LineFault};
-ghost use Rattle.jj_program.specs.Lines.{lines_of, line_text, fields_of, after_line, after_lines, IsFaultOf, Agrees, texts_of};
+ghost use Rattle.jj_program.specs.Lines.{lines_of, line_text, fields_of, after_line, after_lines, LeadsTo, texts_of};
 
 use crate::fault::{Fault, LineFault};
 use jj_filter::failure::Failure;
@@ -12,18 +12,19 @@ use std::alloc::{AllocError, Global};
 
 /// State of a command between two lines of its input.
 pub trait Reading<'t> {
-    /// The model of the state.
+    /// The model of a state.
     ghost State: { Type 0 };
 
-    ghost state: { Self → State };
+    /// The states that a value represents.
+    ghost represents: { Self → State → Type 0 };
 
-    /// The transition of the state at a line with these fields, or the line's fault.
+    /// The transition of a state at a line with these fields, or the line's fault.
     ghost step: { State → List (List ℕ) → Result State LineFault };
 
     /// Processes the fields of a line. After an error the value is not used again.
     fn take(&mut self, alloc: Global, fields: &[&'t str]) -> Result<(), Failure<LineFault>>
-        ensures { Agrees result (λ _. state self.new)
-            (step (state self.old) (texts_of fields.now)) };
+        ensures { (state : State) → represents self.old state
+            → LeadsTo result (represents self.new) (step state (texts_of fields.now)) };
 }
 
 // Processes a line with these fields, unless it is empty.
@@ -35,10 +36,8 @@ fn take_line<'t, M: Reading<'t>>(
     fields: &[&'t str],
 ) -> Result<(), Failure<Fault>>
     requires { texts_of fields.now ≡ fields_of line.now }
-    ensures { MatchResult result
-        (λ _. after_line M.step line_number (M.state reading.old) line.now
-        ≡ Ok (M.state reading.new))
-        (λ fault. IsFaultOf fault (after_line M.step line_number (M.state reading.old) line.now)) }
+    ensures { (state : M.State) → M.represents reading.old state
+        → LeadsTo result (M.represents reading.new) (after_line M.step line_number state line.now) }
 {
     if line.is_empty() {
         return Ok(());
@@ -59,11 +58,9 @@ pub fn take_lines<'t, M: Reading<'t>>(
     reading: &mut M,
     text: &'t str,
 ) -> Result<(), Failure<Fault>>
-    ensures { MatchResult result
-        (λ _. after_lines M.step 1 (M.state reading.old) (lines_of text.now)
-        ≡ Ok (M.state reading.new))
-        (λ fault. IsFaultOf fault (after_lines M.step 1 (M.state reading.old)
-        (lines_of text.now))) }
+    ensures { (state : M.State) → M.represents reading.old state
+        → LeadsTo result (M.represents reading.new)
+        (after_lines M.step 1 state (lines_of text.now)) }
 {
     // All lines share the list of fields, so that a line needs no allocation of its own.
     let mut fields = Vec::new(alloc);
@@ -81,7 +78,7 @@ pub fn take_lines<'t, M: Reading<'t>>(
 }
 
 // Replaces the contents of `fields` by the fields of the first line, and returns its length.
-pub(crate) fn split_line<'t>(fields: &mut Vec<&'t str>, text: &'t str) -> Result<usize, AllocError>
+fn split_line<'t>(fields: &mut Vec<&'t str>, text: &'t str) -> Result<usize, AllocError>
     ensures fields { OnOk result (texts_of fields.new.items
         ≡ fields_of (before_first (λ b. b == 10) text.now)) }
     ensures length { IfOk result (λ length. length ≡ position_or_len (λ b. b == 10) text.now) }

@@ -1,13 +1,12 @@
 //! The command `merge`: simplifies or resolves a merge of strings per line.
-ghost use Rattle.std.specs.Prelude.{◌≡◌, ◌++◌, ℕ, List, Ok, IfOk, IfErr, MatchResult, OnOk, length};
+ghost use Rattle.std.specs.Prelude.{◌≡◌, ◌++◌, ℕ, List, Ok, IfOk, IfErr, OnOk, length};
 ghost use Rattle.jj_merges.specs.Merge.{IsOdd};
-ghost use Rattle.jj_program.specs.Lines.{IsFaultOf, fields_of, texts_of};
-ghost use Rattle.jj_program.specs.MergeCommand.{IsMergeLine, merge_requests, IsMergeResult};
-ghost use Rattle.jj_program.specs.MergeViews.{PerformsFields, PerformsLine, IsFaultOfFields, IsFaultOfLine};
+ghost use Rattle.jj_program.specs.Lines.{AreLinesOf, IsFaultOf, texts_of};
+ghost use Rattle.jj_program.specs.MergeCommand.{IsMergeLine, MergeRequest, merge_requests, merge_step, IsMergeResult};
 
 use crate::fault::{Fault, LineFault};
 use crate::forms::{Shape, form_line};
-use crate::lines::{push_line, split_line};
+use crate::lines::{Reading, push_line, take_lines};
 use crate::merge_outcome::outcome;
 use crate::merge_simplify::simplified_terms;
 use jj_filter::failure::Failure;
@@ -38,67 +37,38 @@ pub(crate) fn merge_of<'t>(alloc: Global, terms: &[&'t str]) -> Result<Merge<&'t
     Ok(builder.build())
 }
 
+// The output for the lines so far.
+#[derive(Drop)]
+pub(crate) struct MergeReading {
+    output: Vec<u8>,
+}
+
+impl<'t> Reading<'t> for MergeReading {
+    ghost State = { List MergeRequest };
+
+    ghost represents = { λ reading requests.
+        AreLinesOf IsMergeLine requests reading.output.items };
+
+    ghost step = { merge_step };
+
+    fn take(&mut self, alloc: Global, fields: &[&'t str]) -> Result<(), Failure<LineFault>> {
+        let (form, _shape, terms) = form_line(MERGE_FORMS, fields)?;
+        push_result(alloc, &mut self.output, form, terms)?;
+        Ok(())
+    }
+}
+
 // Returns the output of `merge` for an input. Each line is performed as it is read, so that only
 // its output is stored.
 pub(crate) fn merge_output(alloc: Global, text: &str) -> Result<Vec<u8>, Failure<Fault>>
     ensures done { IfOk result (λ output. IsMergeResult text.now (Ok output.items)) }
     ensures fault { IfErr result (λ fault. IsFaultOf fault (merge_requests text.now)) }
 {
-    // All lines share the list of fields, so that a line needs no allocation of its own.
-    let mut fields = Vec::new(alloc);
-    let mut output = Vec::new(alloc);
-    let mut rest = text;
-    let mut line_number = 1;
-    loop {
-        let end = split_line(&mut fields, rest)?;
-        perform_line(alloc, &mut output, line_number, &rest[..end], &fields)?;
-        if end == rest.len() {
-            return Ok(output);
-        }
-        rest = &rest[end + 1..];
-        line_number += 1;
-    }
-}
-
-// Performs a line with these fields, unless it is empty.
-fn perform_line(
-    alloc: Global,
-    output: &mut Vec<u8>,
-    line_number: usize,
-    line: &str,
-    fields: &[&str],
-) -> Result<(), Failure<Fault>>
-    requires { texts_of fields.now ≡ fields_of line.now }
-    ensures { MatchResult result
-        (λ _. PerformsLine line_number line.now output.old.items output.new.items)
-        (λ fault. IsFaultOfLine fault line_number line.now) }
-{
-    if line.is_empty() {
-        return Ok(());
-    }
-    match perform_fields(alloc, output, fields) {
-        Ok(()) => Ok(()),
-        Err(Failure::Input(kind)) => Err(Failure::Input(Fault::Line {
-            line: line_number,
-            kind,
-        })),
-        Err(_) => Err(Failure::Memory),
-    }
-}
-
-// Performs the operation that a line with these fields requests.
-fn perform_fields(
-    alloc: Global,
-    output: &mut Vec<u8>,
-    fields: &[&str],
-) -> Result<(), Failure<LineFault>>
-    ensures { MatchResult result
-        (λ _. PerformsFields (texts_of fields.now) output.old.items output.new.items)
-        (λ fault. IsFaultOfFields fault (texts_of fields.now)) }
-{
-    let (form, _shape, terms) = form_line(MERGE_FORMS, fields)?;
-    push_result(alloc, output, form, terms)?;
-    Ok(())
+    let mut reading = MergeReading {
+        output: Vec::new(alloc),
+    };
+    take_lines(alloc, &mut reading, text)?;
+    Ok(reading.output)
 }
 
 // Performs an operation and appends its line to the output.

@@ -1,18 +1,19 @@
 //! The command `walk`: marks paths, builds a set of files in postfix notation, and lists the marked
 //! files in the set and the directories that a pruned walk enters.
 ghost use Rattle.std.specs.Prelude.{◌≡◌, ◌++◌, [], ◌∷◌, length, map, Bool, Ok, IfOk, IfErr, OnOk};
+ghost use Rattle.std.specs.List.{AllZip};
 ghost use Rattle.jj_paths.specs.Names.{path_of};
 ghost use Rattle.jj_paths.specs.Paths.{Path};
 ghost use Rattle.jj_globs.specs.GlobMeaning.{GlobSpec};
 ghost use Rattle.jj_program.specs.Lines.{IsFaultOf};
 ghost use Rattle.jj_program.specs.WalkCommand.{SetTree, WalkState, glob_kind, path_kind, walk_step, walk_request, IsWalkOutput, IsWalkResult, path_lines};
 ghost use Rattle.jj_program.specs.declared.file_set.matcher.FileSet.{FileSet};
-ghost use Rattle.jj_program.specs.SetCode.{sets_of};
+ghost use Rattle.jj_program.specs.SetCode.{AreAlike, sets_of};
 
 use crate::fault::{Fault, LineFault};
 use crate::file_set::Combination::{Difference, Intersection, Union};
 use crate::file_set::SetWord::{Everything, Files, Globs, Nothing, Prefix, PrefixGlobs};
-use crate::file_set::{Combination, SetLine, SetStack, SetWord, walk_set};
+use crate::file_set::{Combination, FileSet, SetStack, SetWord, walk_set};
 use crate::forms::{Field, LineValues, Shape, parse_line};
 use crate::lines::{Reading, push_line, take_lines};
 use crate::walk_command::WalkForm::{Combine, Mark, Push};
@@ -26,7 +27,7 @@ use std::alloc::{AllocError, Global};
 #[derive(Drop)]
 pub(crate) struct WalkReading<'t> {
     marks: Vec<RepoPath<'t>>,
-    sets: SetStack<'t>,
+    sets: SetStack,
     // The paths and globs of the last line.
     values: LineValues<RepoPath<'t>, PathGlobPattern>,
 }
@@ -92,10 +93,8 @@ pub(crate) const WALK_FORMS: &[(&str, Shape, WalkForm)] = &[
 impl<'t> Reading<'t> for WalkReading<'t> {
     ghost State = { WalkState };
 
-    ghost state = { λ reading. record {
-      marks = map path_of reading.marks.items;
-      stack = sets_of reading.sets.ops.items;
-    } };
+    ghost represents = { λ reading state. (map path_of reading.marks.items ≡ state.marks)
+        × AllZip AreAlike (sets_of reading.sets.ops.items) state.stack };
 
     ghost step = { walk_step };
 
@@ -109,9 +108,8 @@ impl<'t> Reading<'t> for WalkReading<'t> {
         match form {
             Mark => Ok(self.marks.extend_from_slice(&self.values.firsts)?),
             Push(word) => {
-                let paths = self.values.take_firsts(alloc);
-                let globs = self.values.take_seconds(alloc);
-                Ok(self.sets.push(SetLine { word, paths, globs })?)
+                let set = FileSet::new(alloc, word, &self.values)?;
+                Ok(self.sets.push(set)?)
             }
             Combine(_) if self.sets.height() < 2 => Err(Failure::Input(LineFault::EmptyStack)),
             Combine(combination) => Ok(self.sets.combine(combination)?),
@@ -145,11 +143,11 @@ pub(crate) fn walk_output<'t>(alloc: Global, text: &'t str) -> Result<Vec<u8>, F
 fn found_lines(
     alloc: Global,
     marks: Vec<RepoPath<'_>>,
-    sets: SetStack<'_>,
+    sets: SetStack,
 ) -> Result<Vec<u8>, AllocError>
     requires { length (sets_of sets.ops.items) ≡ 1 }
     ensures { IfOk result (λ output. (set : SetTree FileSet)
-        → sets_of sets.entry.ops.items ≡ set ∷ []
+        → AllZip AreAlike (sets_of sets.ops.items) (set ∷ [])
         → IsWalkOutput (map path_of marks.entry.items) set output.items) }
 {
     let found = walk_set(alloc, &marks, sets)?;

@@ -7,11 +7,12 @@ ghost use Rattle.jj_paths.specs.Paths.{Path};
 ghost use Rattle.jj_matchers.specs.Patterns.{HasSamePatterns};
 ghost use Rattle.jj_matchers.specs.SortedVisits.{sorted_visit_spec};
 ghost use Rattle.jj_matchers.specs.MarkWalk.{WalksMarks};
-ghost use Rattle.jj_program.specs.declared.file_set.SetOp.{SetOp};
-ghost use Rattle.jj_program.specs.WalkCommand.{SetTree, both, leaf_spec, spec_of};
-ghost use Rattle.jj_program.specs.SetCode.{op_of, set_of, IsAlike, IsAlikeOp, made_by, pass_over, visits_at, sets_of};
+ghost use Rattle.jj_program.specs.declared.file_set.CodeStep.{CodeStep};
+ghost use Rattle.jj_program.specs.WalkCommand.{SetTree, both, leaf_spec, named_set, spec_of};
+ghost use Rattle.jj_program.specs.SetCode.{AreAlike, IsAlike, made_by, pass_over, visits_at, sets_of};
 
-use crate::file_set::{Combination, SetLine, SetOp, SetStack, SetWord, compile, evaluate};
+use crate::file_set::{CodeStep, Combination, SetStack, SetWord, compile, evaluate};
+use crate::forms::LineValues;
 use jj_matchers::matchers::{
     EverythingMatcher, FilesMatcher, GlobsMatcher, Matcher, NothingMatcher, PathGlobPattern,
     PrefixMatcher, SortedVisit, Walk, difference_visit, intersection_visit, union_visit,
@@ -67,35 +68,41 @@ impl Matcher for FileSet {
 }
 
 impl FileSet {
-    // Builds the matcher of the set that a line pushes.
-    fn new(alloc: Global, line: &SetLine<'_>) -> Result<FileSet, AllocError>
-        ensures { IfOk result (λ set. IsAlike (leaf_spec set) (leaf_spec (set_of line.now))) }
+    // Builds the matcher of the set that a line with these values pushes; each glob is relative to
+    // the path with its index.
+    pub(crate) fn new(
+        alloc: Global,
+        word: SetWord,
+        values: &LineValues<RepoPath<'_>, PathGlobPattern>,
+    ) -> Result<FileSet, AllocError>
+        ensures { IfOk result (λ set. IsAlike (leaf_spec set) (leaf_spec
+            (named_set word (map path_of values.now.firsts.items) values.now.seconds.items))) }
     {
-        match line.word {
+        match word {
             SetWord::Everything => Ok(FileSet::Everything),
             SetWord::Nothing => Ok(FileSet::Nothing),
-            SetWord::Files => Ok(FileSet::Files(FilesMatcher::new(alloc, &line.paths)?)),
-            SetWord::Prefix => Ok(FileSet::Prefix(PrefixMatcher::new(alloc, &line.paths)?)),
-            SetWord::Globs => Ok(FileSet::Globs(globs_matcher(alloc, false, line)?)),
-            SetWord::PrefixGlobs => Ok(FileSet::Globs(globs_matcher(alloc, true, line)?)),
+            SetWord::Files => Ok(FileSet::Files(FilesMatcher::new(alloc, &values.firsts)?)),
+            SetWord::Prefix => Ok(FileSet::Prefix(PrefixMatcher::new(alloc, &values.firsts)?)),
+            SetWord::Globs => Ok(FileSet::Globs(globs_matcher(alloc, false, values)?)),
+            SetWord::PrefixGlobs => Ok(FileSet::Globs(globs_matcher(alloc, true, values)?)),
         }
     }
 }
 
-// Builds the matcher of a line's globs, each below its path.
+// Builds the matcher of globs, each below its path.
 fn globs_matcher(
     alloc: Global,
     prefix_paths: bool,
-    line: &SetLine<'_>,
+    values: &LineValues<RepoPath<'_>, PathGlobPattern>,
 ) -> Result<GlobsMatcher, AllocError>
     ensures { IfOk result (λ matcher. HasSamePatterns matcher (record {
       prefix_paths = prefix_paths;
-      patterns = zip (map path_of line.now.paths.items)
-          line.now.globs.items;
+      patterns = zip (map path_of values.now.firsts.items)
+          values.now.seconds.items;
     })) }
 {
     let mut builder = GlobsMatcher::builder(alloc).prefix_paths(prefix_paths);
-    for (dir, glob) in line.paths.iter().zip(&line.globs) {
+    for (dir, glob) in values.firsts.iter().zip(&values.seconds) {
         builder.add(*dir, glob)?;
     }
     builder.build()
@@ -104,7 +111,7 @@ fn globs_matcher(
 // A combined set. No operation recurses, however deep the combinations nest.
 #[derive(Drop)]
 pub(crate) struct SetMatcher {
-    code: Vec<SetOp<FileSet>>,
+    code: Vec<CodeStep>,
     // One pass over the code decides membership.
     ghost decided: { (path : Path) → (pass_over path code.items (0, false)).1
         ≡ (spec_of (made_by code.items)).accepts path },
@@ -138,7 +145,7 @@ impl Matcher for SetMatcher {
 // The visit of a directory, on a stack of the visits of operands.
 fn visit_by<'a>(
     alloc: Global,
-    code: &'a [SetOp<FileSet>],
+    code: &'a [CodeStep],
     dir: RepoPath<'_>,
 ) -> Result<SortedVisit<'a>, AllocError>
     ensures { IfOk result (λ visit. sorted_visit_spec visit
@@ -148,7 +155,7 @@ fn visit_by<'a>(
     let mut left = code.len();
     while left > 0 {
         left -= 1;
-        visit_op(alloc, &mut visits, &code[left], dir)?;
+        visit_step(alloc, &mut visits, &code[left], dir)?;
     }
     match visits.pop() {
         Some(visit) => Ok(visit),
@@ -156,26 +163,26 @@ fn visit_by<'a>(
     }
 }
 
-fn visit_op<'a>(
+fn visit_step<'a>(
     alloc: Global,
     visits: &mut Vec<SortedVisit<'a>>,
-    op: &'a SetOp<FileSet>,
+    step: &'a CodeStep,
     dir: RepoPath<'_>,
 ) -> Result<(), AllocError>
-    ensures { IfOk result (λ done. (earlier : List (SetOp FileSet))
+    ensures { IfOk result (λ done. (earlier : List CodeStep)
         → map sorted_visit_spec (reverse visits.old.items)
         ≡ visits_at (path_of dir.entry) earlier
         → map sorted_visit_spec (reverse visits.new.items)
-        ≡ visits_at (path_of dir.entry) (op.now ∷ earlier)) }
+        ≡ visits_at (path_of dir.entry) (step.now ∷ earlier)) }
 {
-    match op {
-        SetOp::Test(set) => {
+    match step {
+        CodeStep::Test(set) => {
             let visit = set.visit_sorted(alloc, dir)?;
             visits.push(visit)?;
             Ok(())
         }
-        SetOp::ShortCircuit(_) => Ok(()),
-        SetOp::Combine(combination) => combine_top(alloc, visits, *combination),
+        CodeStep::ShortCircuit(_) => Ok(()),
+        CodeStep::Combine(combination) => combine_top(alloc, visits, *combination),
     }
 }
 
@@ -185,10 +192,10 @@ fn combine_top(
     visits: &mut Vec<SortedVisit<'_>>,
     combination: Combination,
 ) -> Result<(), AllocError>
-    ensures { IfOk result (λ done. (dir : Path) (earlier : List (SetOp FileSet))
+    ensures { IfOk result (λ done. (dir : Path) (earlier : List CodeStep)
         → map sorted_visit_spec (reverse visits.old.items) ≡ visits_at dir earlier
         → map sorted_visit_spec (reverse visits.new.items)
-        ≡ visits_at dir (SetOp.Combine combination ∷ earlier)) }
+        ≡ visits_at dir (CodeStep.Combine combination ∷ earlier)) }
 {
     if let Some(second) = visits.pop() {
         if let Some(first) = visits.pop() {
@@ -216,45 +223,15 @@ fn combined_visit<'a>(
     }
 }
 
-// Builds the matcher of each set in the code.
-fn matchers_of(
-    alloc: Global,
-    code: &[SetOp<SetLine<'_>>],
-) -> Result<Vec<SetOp<FileSet>>, AllocError>
-    ensures { IfOk result (λ own. AllZip IsAlikeOp own.items (map op_of code.now)) }
-{
-    let mut own = Vec::new(alloc);
-    for op in code {
-        own.push(matcher_of(alloc, op)?)?;
-    }
-    Ok(own)
-}
-
-fn matcher_of(alloc: Global, op: &SetOp<SetLine<'_>>) -> Result<SetOp<FileSet>, AllocError>
-    ensures { IfOk result (λ own. IsAlikeOp own (op_of op.now)) }
-{
-    match op {
-        SetOp::Test(line) => {
-            let set = FileSet::new(alloc, line)?;
-            Ok(SetOp::Test(set))
-        }
-        SetOp::ShortCircuit(combination) => Ok(SetOp::ShortCircuit(*combination)),
-        SetOp::Combine(combination) => Ok(SetOp::Combine(*combination)),
-    }
-}
-
 impl SetMatcher {
     // Compiles the only set of a stack.
-    fn new(alloc: Global, sets: SetStack<'_>) -> Result<SetMatcher, AllocError>
+    fn new(alloc: Global, sets: SetStack) -> Result<SetMatcher, AllocError>
         requires { length (sets_of sets.ops.items) ≡ 1 }
-        ensures { IfOk result (λ matcher. (set : SetTree FileSet)
-            → sets_of sets.entry.ops.items ≡ set ∷ []
-            → IsAlike (spec_of (made_by matcher.code.items)) (spec_of set)) }
+        ensures { IfOk result (λ matcher. sets_of sets.ops.items
+            ≡ made_by matcher.code.items ∷ []) }
     {
         let code = compile(alloc, sets.into_ops())?;
-        Ok(SetMatcher {
-            code: matchers_of(alloc, &code)?,
-        })
+        Ok(SetMatcher { code })
     }
 }
 
@@ -262,11 +239,11 @@ impl SetMatcher {
 pub(crate) fn walk_set<'t>(
     alloc: Global,
     marks: &[RepoPath<'t>],
-    sets: SetStack<'_>,
+    sets: SetStack,
 ) -> Result<Walk<RepoPath<'t>>, AllocError>
     requires { length (sets_of sets.ops.items) ≡ 1 }
     ensures { IfOk result (λ walk. (set : SetTree FileSet)
-        → sets_of sets.entry.ops.items ≡ set ∷ []
+        → AllZip AreAlike (sets_of sets.ops.items) (set ∷ [])
         → WalksMarks (spec_of set).accepts (spec_of set).visits (map path_of marks.now)
         (map path_of walk.files.items) (map path_of walk.entered.items)) }
 {

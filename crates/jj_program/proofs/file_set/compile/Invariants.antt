@@ -4,7 +4,7 @@ use Rattle.jj_program.specs.SetCode.{code_along}
 use Rattle.jj_program.proofs.file_set.compile.Given as goal
 
 abbrev pub invariant-loop-op : goal.invariant-loop-op
-invariant-loop-op g l = l.code.items ++ code_along (reverse l.pending.items) (reverse l.ops.items) ≡ code_along [] (reverse l.initial.ops.items)
+invariant-loop-op l = l.code.items ++ code_along (reverse l.pending.items) (reverse l.ops.items) ≡ code_along [] (reverse l.initial.ops.items)
 
 abbrev pub decreases-loop-op : goal.decreases-loop-op
-decreases-loop-op g l = vec_len l.ops
+decreases-loop-op l = vec_len l.ops

@@ -23,7 +23,7 @@ loop-left-preserved c =
     let within : left < length code = omega (arith, few, more) in
     let next : suc left ≡ c.loop-left.left = omega (arith, more) in
     let so_far : c.loop-left.pass ≡ pass_over path (drop (suc left) code) (0, false) = c.loop-left.invariant.is ∙ ap (λ n. pass_over path (drop n code) (0, false)) (sym next) in
-    let is = c.after_op-pass.ensures in
+    let is = c.after_step-pass.ensures in
     let one_more = after-few path op c.loop-left.pass.0 c.loop-left.pass.1 in
     let counted = ap (λ (p : ℕ × Bool). p.0) is in
     record {

@@ -1,6 +1,7 @@
-use Rattle.std.proofs.Common.{◌≡◌, ◌∙◌, ◌++◌, ◌<◌, ℕ, List, [], map, take, length, ap, subst, sym, refl, arith, inl, inr, None, eqb-true}
+use Rattle.std.proofs.Common.{◌≡◌, ◌∙◌, ◌++◌, ◌<◌, ℕ, List, [], map, take, length, ap, subst, sym, refl, arith, inl, inr, None, Ok, eqb-true}
 use Rattle.std.specs.Prelude.{All, codes, string_bytes}
 use Rattle.std.specs.List.{Contains}
+use Rattle.std.proofs.lemmas.Result.{err_from_is_err_and}
 use Rattle.std.proofs.lemmas.List.Elements.{All-contains, All-weaker}
 use Rattle.std.proofs.lemmas.List.{nil_from_length, take_all}
 use Rattle.jj_program.specs.Lines.{after_lines, line_text, lines_of, AreLinesOf}
@@ -42,13 +43,21 @@ push_result-requires-clause-named c =
     let numbered : All (Contains ids) requested = subst (All (Contains ids)) c.deref-2.ensures.value c.in_ok-graph.ensures.requested in
     All-weaker (Contains requested) (Contains ids) (λ id among. All-contains (Contains ids) requested id numbered among) (ids_of (graph_request_of request)) held
 
+pub returns-in_err-take_lines-clause-fault : goal.returns-in_err-take_lines-clause-fault
+returns-in_err-take_lines-clause-fault c =
+    let p = err_from_is_err_and c.from_residual.result c.from_residual.ensures.1 in
+    let start : graph_state_of (record { edges = c.new.result; requests = c.new-2.result; ids = c.new-3.result }) ≡ record { listed = λ id. None; requests = [] } =
+    λ i. record { listed = c.new.ensures i; requests = map graph_request_of (c.new-2.ensures.items i) } in
+    rw (p.1, p.2) (c.in_err-take_lines.ensures (record { listed = λ id. None; requests = [] }) start)
+
 pub returns-clause-done : goal.returns-clause-done
 returns-clause-done c =
     let reading = c.take_lines.new.reading in
     let state : GraphState = graph_state_of reading in
     let start : graph_state_of (record { edges = c.new.result; requests = c.new-2.result; ids = c.new-3.result }) ≡ record { listed = λ id. None; requests = [] } =
     λ i. record { listed = c.new.ensures i; requests = map graph_request_of (c.new-2.ensures.items i) } in
-    let read = ap (λ s. after_lines graph_step 1 s (lines_of c.args.text.now)) (sym start) ∙ c.in_ok-take_lines.ensures in
+    let (reached, leads, is_reached) = c.in_ok-take_lines.ensures (record { listed = λ id. None; requests = [] }) start in
+    let read : after_lines graph_step 1 (record { listed = λ id. None; requests = [] }) (lines_of c.args.text.now) ≡ Ok state = leads ∙ ap Ok (sym is_reached) in
     let items = c.deref-request-items.result.now in
     let whole : take c.loop-request.request-index items ≡ reading.requests.items = take_all c.loop-request.request-index items (omega arith) ∙ c.deref-request-items.ensures.value in
     let answered : AreLinesOf (IsGraphLine (graph_of state.listed)) state.requests (string_bytes c.loop-request.output) =
@@ -62,7 +71,8 @@ returns-then-is_empty-clause-done c =
     let state : GraphState = graph_state_of reading in
     let start : graph_state_of (record { edges = c.new.result; requests = c.new-2.result; ids = c.new-3.result }) ≡ record { listed = λ id. None; requests = [] } =
     λ i. record { listed = c.new.ensures i; requests = map graph_request_of (c.new-2.ensures.items i) } in
-    let read = ap (λ s. after_lines graph_step 1 s (lines_of c.args.text.now)) (sym start) ∙ c.in_ok-take_lines.ensures in
+    let (reached, leads, is_reached) = c.in_ok-take_lines.ensures (record { listed = λ id. None; requests = [] }) start in
+    let read : after_lines graph_step 1 (record { listed = λ id. None; requests = [] }) (lines_of c.args.text.now) ≡ Ok state = leads ∙ ap Ok (sym is_reached) in
     let zero : reading.requests.len ≡ 0 = eqb-true _ _ (sym c.is_empty.ensures ∙ c.if-is_empty.true) in
     let none : reading.requests.items ≡ [] = nil_from_length reading.requests.items (omega (arith, zero)) in
     (state, read, subst (λ requests. AreLinesOf (IsGraphLine (graph_of state.listed)) (map graph_request_of requests) c.new-then-is_empty.result.items) (sym none) c.new-then-is_empty.ensures.items)

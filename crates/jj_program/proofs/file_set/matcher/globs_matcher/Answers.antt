@@ -22,8 +22,8 @@ read_paths (pair ∷ pairs) = ap (λ l. (path_of pair.0.now, pair.1.now) ∷ l) 
 
 pub returns : goal.returns
 returns c =
-    let dirs = c.args.line.now.paths.items in
-    let globs = c.args.line.now.globs.items in
+    let dirs = c.args.values.now.firsts.items in
+    let globs = c.args.values.now.seconds.items in
     let pairs = c.loop-dir.yielded in
     let road = YieldsList-from_zip (YieldsList-from_slice dirs cc) (YieldsList-from_slice globs cc) in
     let all = YieldsList-end road pairs _ c.loop-dir.yielded_by _ c.next.new.self c.in-None.is c.next.ensures.steps in

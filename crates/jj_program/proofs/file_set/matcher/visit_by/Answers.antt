@@ -18,7 +18,7 @@ loop-left-preserved c =
     let whole : op ∷ drop (suc left) code ≡ drop left code = ap (λ x. x ∷ drop (suc left) code) c.index-code-left.is ∙ sym (drop-cons code left op within) in
     record {
       within = omega (arith, bound, more);
-      visits = c.in_ok-visit_op.ensures (drop (suc left) code) (c.loop-left.invariant.visits ∙ ap (λ n. visits_at dir (drop n code)) next) ∙ ap (visits_at dir) whole;
+      visits = c.in_ok-visit_step.ensures (drop (suc left) code) (c.loop-left.invariant.visits ∙ ap (λ n. visits_at dir (drop n code)) next) ∙ ap (visits_at dir) whole;
     }
 
 pub returns-in-Some : goal.returns-in-Some

@@ -2,14 +2,14 @@ use Rattle.std.proofs.Common.{◌∙◌, ◌%◌, ap, sym}
 use Rattle.std.proofs.lemmas.List.{length-map}
 use Rattle.jj_program.specs.Lines.{Text, texts_of}
 use Rattle.jj_program.proofs.FormRows.{odd_terms}
-use Rattle.jj_program.proofs.MergeRequests.{answers_fields}
-use Rattle.jj_program.proofs.merge_command.perform_fields.Goals as goal
+use Rattle.jj_program.proofs.MergeRequests.{one_more}
+use Rattle.jj_program.proofs.merge_command.MergeReadingReading.take.Goals as goal
 
 pub returns : goal.returns
-returns c =
-    let (answer, is, written) = c.in_ok-push_result.ensures in
-    answers_fields (texts_of c.args.fields.now) c.in_ok-form.form c.in_ok-form._shape (texts_of c.in_ok-form.terms.now) c.args.output.now.items _ answer
-    c.in_ok-form.ensures.parsed is written
+returns c = λ requests each.
+    let (line, is, written) = c.in_ok-push_result.ensures in
+    one_more requests (texts_of c.args.fields.now) c.in_ok-form.form c.in_ok-form._shape (texts_of c.in_ok-form.terms.now) c.args.self.now.output.items _ line
+    each c.in_ok-form.ensures.parsed is written
 
 pub push_result-requires : goal.push_result-requires
 push_result-requires c =
