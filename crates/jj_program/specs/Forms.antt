@@ -1,7 +1,7 @@
 -- Tables of line forms, and the values of the fields of a line by such a table.
 -- Cited by contracts of public items through GraphCommand, HashCommand, LineFaults, LineForms,
 -- MergeCommand, WalkCommand.
-use Rattle.std.specs.Prelude.{ℕ, ◌==◌, ◌%◌, Bool, true, not, List, [], ◌∷◌, cond, codes, length, map, Option, Some, None, ok_or, Result, Ok, Err}
+use Rattle.std.specs.Prelude.{ℕ, ◌==◌, ◌%◌, Bool, true, not, List, [], ◌∷◌, if◌then◌else◌, codes, length, map, Option, Some, None, ok_or, Result, Ok, Err}
 use Rattle.std.specs.Borrow.{Bor}
 use Rattle.std.specs.List.{after_first, before_first, count_by, list_all}
 use Rattle.std.specs.Str.{bytes_eq}
@@ -67,14 +67,14 @@ borrowed_table forms = map (λ form. (form.0.now, form.1, form.2)) forms
 abbrev pub form_named : {A : Type 0} → List (Form A) → List ℕ → Option (Shape × A)
 form_named [] word = None
 form_named (form ∷ forms) word =
-    cond (bytes_eq form.0 word) (Some (form.1, form.2)) (form_named forms word)
+    if bytes_eq form.0 word then Some (form.1, form.2) else form_named forms word
 
 -- the action and the shape of a line, and the fields after its word
 abbrev pub form_line : {A : Type 0} → List (Form A) → List (List ℕ)
     → Result (A × Shape × List (List ℕ)) LineFault
 form_line forms [] = Err UnknownCommand
 form_line forms (word ∷ fields) = result_and_then (ok_or (form_named forms word) UnknownCommand)
-    (λ form. cond (admits form.0 fields) (Ok (form.1, form.0, fields)) (Err BadFieldCount))
+    (λ form. if admits form.0 fields then Ok (form.1, form.0, fields) else Err BadFieldCount)
 
 -- 3. Values of fields.
 
@@ -86,11 +86,11 @@ pub record Kind (V : Type 0) : Type 0 where
 
 -- the value of a field, and the values of fields
 abbrev pub value_at : {V : Type 0} → Kind V → List ℕ → Result V LineFault
-value_at kind text = cond (kind.is_one text) (Ok (kind.value_of text)) (Err kind.otherwise)
+value_at kind text = if kind.is_one text then Ok (kind.value_of text) else Err kind.otherwise
 
 abbrev pub values_at : {V : Type 0} → Kind V → List (List ℕ) → Result (List V) LineFault
 values_at kind texts =
-    cond (list_all kind.is_one texts) (Ok (map kind.value_of texts)) (Err kind.otherwise)
+    if list_all kind.is_one texts then Ok (map kind.value_of texts) else Err kind.otherwise
 
 -- the action of a line and the values of its two lists; a fault of the first takes precedence
 abbrev pub line_of : {A V W : Type 0} → Kind V → Kind W → List (Form A) → List (List ℕ)

@@ -1,7 +1,7 @@
 -- The command `graph`: adjacency lists, and requests for the topological order, the heads or the
 -- closest common nodes of some ids.
 -- Cited by contracts of public items through LineFaults, Program.
-use Rattle.std.specs.Prelude.{◌≡◌, ◌⊎◌, ℕ, ◌==◌, List, [], ◌∷◌, ◌++◌, cond, codes, map, Option, Some, None, is_some, unwrap_or, Result, Ok, Err, ◌^◌, Bool, ◌&&◌, nat_lt}
+use Rattle.std.specs.Prelude.{◌≡◌, ◌⊎◌, ℕ, ◌==◌, List, [], ◌∷◌, ◌++◌, if◌then◌else◌, codes, map, Option, Some, None, is_some, unwrap_or, Result, Ok, Err, ◌^◌, Bool, ◌&&◌, nat_lt}
 use Rattle.std.specs.Str.Parse.{digits_value}
 use Rattle.std.specs.Fmt.{decimal}
 use Rattle.std.specs.List.Sorted.{IsStrictlyIncreasing}
@@ -40,10 +40,11 @@ number_kind = record { is_one = is_number; value_of = digits_value 10; otherwise
 -- adds the adjacency list of the first id, unless the node has one
 abbrev pub with_node : GraphState → List ℕ → Result GraphState LineFault
 with_node state [] = Ok state
-with_node state (id ∷ neighbors) = cond (is_some (state.listed id)) (Err RepeatedNode) (Ok (record {
-  listed = λ other. cond (id == other) (Some neighbors) (state.listed other);
-  requests = state.requests;
-}))
+with_node state (id ∷ neighbors) = if is_some (state.listed id) then Err RepeatedNode
+    else Ok (record {
+      listed = λ other. if id == other then Some neighbors else state.listed other;
+      requests = state.requests;
+    })
 
 -- appends a request
 abbrev pub with_request : GraphState → GraphRequest → Result GraphState LineFault
@@ -97,7 +98,7 @@ IsLineOfRequest graph (Common set1 set2) line = (common : List ℕ)
 -- the line of a request: `cycle` if the graph has one anywhere
 abbrev pub IsGraphLine : Graph → GraphRequest → List ℕ → Type 0
 IsGraphLine graph request line = (HasCycle graph × (line ≡ line_text (codes "cycle") []))
-    ⊎ ((HasCycle graph → ⊥) × IsLineOfRequest graph request line)
+    ⊎ ((¬ HasCycle graph) × IsLineOfRequest graph request line)
 
 -- the output has one line per request, on the graph of the whole input; or the input has this fault
 abbrev pub IsGraphResult : List ℕ → Result (List ℕ) Fault → Type 0

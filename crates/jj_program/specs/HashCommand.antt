@@ -1,7 +1,7 @@
 -- The command `hash`: the digest of each line's bytes, which are given in hex or are the content of
 -- strings.
 -- Cited by contracts of public items through LineFaults, Program.
-use Rattle.std.specs.Prelude.{◌≡◌, ℕ, ◌+◌, ◌*◌, List, [], ◌∷◌, ◌++◌, flat_map, Option, None, Some, ok_or, option_and_then, option_map, Result, Ok, length}
+use Rattle.std.specs.Prelude.{◌≡◌, ℕ, ◌+◌, ◌*◌, List, [], ◌∷◌, ◌++◌, flat_map, Option, None, Some, ok_or, option_and_then, option_map, Result, Ok, length, ⊤}
 use Rattle.std.specs.List.{concat}
 use Rattle.jj_content.specs.Blake2b.{blake2b}
 use Rattle.jj_content.specs.Content.{string_content, list_content}
@@ -53,5 +53,5 @@ hash_output text = after_lines hash_step 1 [] (lines_of text)
 abbrev pub HasSize : HashInput → List (List ℕ) → Type 0
 HasSize Raw fields = length fields ≡ 1
 HasSize Text fields = length fields ≡ 1
-HasSize List' fields = Unit {0}
+HasSize List' fields = ⊤
 HasSize Merge fields = IsOdd (length fields)

@@ -1,7 +1,7 @@
 -- Faults of lines, kind by kind, defined over the fields of the input only, and the first fault of
 -- an input.
 -- Cited by contracts of public items: FaultsAreOfFirstKinds.
-use Rattle.std.specs.Prelude.{◌≡◌, ◌≢◌, ◌==◌, ◌&&◌, ◌++◌, ◌+◌, ◌-◌, ℕ, Bool, true, false, not, nat_lt, List, [], ◌∷◌, map, Option, Some, None, is_some, Result, Ok, Err}
+use Rattle.std.specs.Prelude.{◌≡◌, ◌≢◌, ◌==◌, ◌&&◌, ◌++◌, ◌+◌, ◌-◌, ℕ, Bool, true, false, not, nat_lt, List, [], ◌∷◌, map, Option, Some, None, is_some, Result, Ok, Err, ⊤}
 use Rattle.std.specs.List.{concat, count_by, find, list_all, list_any}
 use Rattle.std.specs.Option.{option_map, option_or}
 use Rattle.std.specs.Str.Parse.{digits_value}
@@ -122,7 +122,7 @@ first_fault command earlier number (line ∷ lines) =
 -- a walk must leave exactly one set
 abbrev pub LeavesOneSet : Command → List (List ℕ) → Type 0
 LeavesOneSet Walk lines = sets_left lines ≡ 1
-LeavesOneSet command lines = Unit {0}
+LeavesOneSet command lines = ⊤
 
 -- a result agrees with the lines of its input: an output if no line has a fault (and a walk leaves
 -- one set); the number of sets left if it is not one; or the first fault of the first faulty line

@@ -30,7 +30,7 @@ merge_requests text = after_lines merge_step 1 [] (lines_of text)
 abbrev pub IsOutcome : SameChange → List (List ℕ) → Option (List ℕ) → Type 0
 IsOutcome same_change terms (Some term) = Contains terms term
     × ResolvesTo bytes_eq same_change terms term
-IsOutcome same_change terms None = (term : List ℕ) → ResolvesTo bytes_eq same_change terms term → ⊥
+IsOutcome same_change terms None = (term : List ℕ) → ¬ ResolvesTo bytes_eq same_change terms term
 
 -- the line of a resolved merge or of a conflict
 abbrev pub outcome_line : Option (List ℕ) → List ℕ

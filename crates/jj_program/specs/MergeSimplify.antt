@@ -1,6 +1,6 @@
 -- The state of a cancellation of adds with equal removes.
 -- Machinery of private functions and fields.
-use Rattle.std.specs.Prelude.{◌≡◌, ◌==◌, ◌||◌, ◌<◌, ◌≤◌, ◌+◌, ◌*◌, ◌-◌, ◌%◌, Bool, ℕ, zero, suc, List, [], ◌∷◌, ◌++◌, cond, drop, length, map, nat_le, slice_index}
+use Rattle.std.specs.Prelude.{◌≡◌, ◌==◌, ◌||◌, ◌<◌, ◌≤◌, ◌+◌, ◌*◌, ◌-◌, ◌%◌, Bool, ℕ, zero, suc, List, [], ◌∷◌, ◌++◌, if◌then◌else◌, drop, length, map, nat_le, slice_index}
 use Rattle.jj_merges.specs.Merge.{interleave}
 use Rattle.jj_merges.specs.Simplify.{SideIndices}
 
@@ -12,7 +12,7 @@ IsRemoveOf classes class index = (index % 2 ≡ 1) × (slice_index classes index
 abbrev pub IsFirstFrom : List ℕ → ℕ → ℕ → ℕ → Type 0
 IsFirstFrom classes class start index = (start ≤ index) × (index ≤ length classes)
     × (index < length classes → IsRemoveOf classes class index)
-    × ((other : ℕ) → start ≤ other → other < index → IsRemoveOf classes class other → ⊥)
+    × ((other : ℕ) → start ≤ other → other < index → ¬ IsRemoveOf classes class other)
 
 -- the next remove of the same class after each remove from index `start` on
 abbrev pub AreNextsFrom : ℕ → List ℕ → List ℕ → Type 0
@@ -38,7 +38,7 @@ is_left classes heads position = (position == 0)
 -- the positions below n that pass a test
 abbrev pub positions_below : ℕ → (ℕ → Bool) → List ℕ
 positions_below zero test = []
-positions_below (suc n) test = positions_below n test ++ cond (test n) (n ∷ []) []
+positions_below (suc n) test = positions_below n test ++ (if test n then n ∷ [] else [])
 
 -- the adds at these positions, and the removes before them; position 0 has none
 abbrev pub sides_at : List ℕ → List ℕ → SideIndices

@@ -32,7 +32,7 @@ HaveCountsOf adds removes other_adds other_removes = (v : Text) →
 -- the string that the merge resolves to, if there is one
 abbrev pub IsTextOutcome : SameChange → List Text → Option Text → Type 0
 IsTextOutcome same_change terms (Some v) = ResolvesTo text_eq same_change terms v
-IsTextOutcome same_change terms None = (v : Text) → ResolvesTo text_eq same_change terms v → ⊥
+IsTextOutcome same_change terms None = (v : Text) → ¬ ResolvesTo text_eq same_change terms v
 
 -- the outcome of all merges with the signed counts of these sides
 abbrev pub ResolvesSides : SameChange → List Text → List Text → Option Text → Type 0

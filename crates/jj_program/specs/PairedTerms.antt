@@ -1,7 +1,7 @@
 -- Pairs of an add and an equal remove that cancel, by a flag for each term of a merge that says
 -- whether it is left.
 -- Machinery of private functions and fields.
-use Rattle.std.specs.Prelude.{ℕ, ◌≡◌, ◌≢◌, ◌+◌, ◌<◌, ◌%◌, Bool, true, false, List, [], ◌∷◌, cond, get_or, length, slice_index_or}
+use Rattle.std.specs.Prelude.{ℕ, ◌≡◌, ◌≢◌, ◌+◌, ◌<◌, ◌%◌, Bool, true, false, List, [], ◌∷◌, if◌then◌else◌, length, slice_index_or}
 use Rattle.jj_merges.specs.Merge as merge
 use Rattle.jj_program.specs.Lines.{Text}
 use Rattle.jj_program.specs.MergeViews.{text_eq, HaveCountsOf}
@@ -11,7 +11,7 @@ abbrev mutual
   pub left_adds : List Bool → List Text → List Text
   left_adds [] xs = []
   left_adds (b ∷ bs) [] = []
-  left_adds (b ∷ bs) (x ∷ xs) = cond b (x ∷ left_removes bs xs) (left_removes bs xs)
+  left_adds (b ∷ bs) (x ∷ xs) = if b then x ∷ left_removes bs xs else left_removes bs xs
 
   -- the removes that are left
   pub left_removes : List Bool → List Text → List Text
@@ -34,4 +34,5 @@ AreOpposite terms i k = (i % 2 ≢ k % 2)
 
 -- the term at i comes before that at k, cancels with it and is left
 abbrev pub IsLeftOpposite : List Text → List Bool → ℕ → ℕ → Type 0
-IsLeftOpposite terms left k i = (i < k) × (get_or left i false ≡ true) × AreOpposite terms i k
+IsLeftOpposite terms left k i = (i < k) × (slice_index_or left i false ≡ true)
+    × AreOpposite terms i k

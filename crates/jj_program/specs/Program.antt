@@ -1,6 +1,6 @@
 -- The result of a command on an input.
 -- Cited by contracts of public items: FaultsOf, OutputsOf, command_line, command_named.
-use Rattle.std.specs.Prelude.{◌≡◌, ℕ, List, [], ◌∷◌, cond, codes, Option, Some, None, Result, Ok, Err}
+use Rattle.std.specs.Prelude.{◌≡◌, ℕ, List, [], ◌∷◌, if◌then◌else◌, codes, Option, Some, None, Result, Ok, Err}
 use Rattle.std.specs.Bool.{MatchBool}
 use Rattle.std.specs.Str.{bytes_eq, is_utf8}
 use Rattle.jj_program.specs.declared.fault.Fault.{Fault}
@@ -15,11 +15,11 @@ use Rattle.jj_program.specs.HashCommand.{hash_output}
 -- the command with this name
 abbrev pub command_named : List ℕ → Option Command
 command_named name =
-    cond (bytes_eq name (codes "walk")) (Some Walk)
-    (cond (bytes_eq name (codes "merge")) (Some Merge)
-    (cond (bytes_eq name (codes "graph")) (Some Graph)
-    (cond (bytes_eq name (codes "hash")) (Some Hash)
-    None)))
+    if bytes_eq name (codes "walk") then Some Walk
+    else if bytes_eq name (codes "merge") then Some Merge
+    else if bytes_eq name (codes "graph") then Some Graph
+    else if bytes_eq name (codes "hash") then Some Hash
+    else None
 
 -- the command of a command line: exactly one word, the name of a command
 abbrev pub command_line : List (List ℕ) → Option Command

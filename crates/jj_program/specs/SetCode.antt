@@ -1,6 +1,6 @@
 -- Sets as private functions see them: the operations of lines, their compiled code, and matchers.
 -- Machinery of private functions and fields.
-use Rattle.std.specs.Prelude.{Bool, true, ◌&&◌, nat_lt, List, [], ◌∷◌, length, map, reverse, ℕ, zero, suc, not, cond, ◌≡◌, get_or}
+use Rattle.std.specs.Prelude.{Bool, true, ◌&&◌, nat_lt, List, [], ◌∷◌, length, map, reverse, ℕ, zero, suc, not, if◌then◌else◌, ◌≡◌, slice_index_or}
 use Rattle.jj_program.specs.declared.file_set.CodeStep.{CodeStep}
 use Rattle.jj_program.specs.declared.file_set.CodeStep.TheVariants.{Test, ShortCircuit, Combine as Combine'}
 use Rattle.jj_program.specs.declared.file_set.SetOp.{SetOp}
@@ -60,7 +60,7 @@ with_second Intersection second = second
 abbrev pub after_step : Path → CodeStep → ℕ → Bool → ℕ × Bool
 after_step path (Test set) zero is_in = (zero, (leaf_spec set).accepts path)
 after_step path (ShortCircuit combination) zero is_in =
-    (cond (is_decided_by combination is_in) 1 0, is_in)
+    (if is_decided_by combination is_in then 1 else 0, is_in)
 after_step path (Combine' combination) zero is_in = (zero, with_second combination is_in)
 after_step path (Test set) (suc skipped) is_in = (suc skipped, is_in)
 after_step path (ShortCircuit combination) (suc skipped) is_in = (suc (suc skipped), is_in)
@@ -84,7 +84,7 @@ left_by (Combine' combination ∷ earlier) = combined_stack combination (left_by
 
 -- the last of them
 abbrev pub made_by : List CodeStep → SetTree FileSet
-made_by code = get_or (left_by code) 0 (one Nothing)
+made_by code = slice_index_or (left_by code) 0 (one Nothing)
 
 -- their visits of a directory
 abbrev pub visits_at : Path → List CodeStep → List VisitSpec

@@ -1,6 +1,6 @@
 -- The first bytes of a string as a number.
 -- Machinery of private functions and fields.
-use Rattle.std.specs.Prelude.{ℕ, zero, suc, ◌≡◌, ◌+◌, ◌*◌, ◌<◌, List, [], ◌∷◌}
+use Rattle.std.specs.Prelude.{ℕ, zero, suc, ◌≡◌, ◌+◌, ◌*◌, ◌<◌, List, [], ◌∷◌, ⊤}
 use Rattle.jj_program.specs.Lines.{Text}
 
 -- the big-endian number of the bytes of `key` and the next `n`, of which missing ones are 0
@@ -11,8 +11,8 @@ key_from key (suc n) (b ∷ bs) = key_from (key * 256 + b) n bs
 
 -- the first n numbers are bytes
 abbrev pub AreBytes : ℕ → List ℕ → Type 0
-AreBytes zero bytes = Unit {0}
-AreBytes (suc n) [] = Unit {0}
+AreBytes zero bytes = ⊤
+AreBytes (suc n) [] = ⊤
 AreBytes (suc n) (b ∷ bs) = (b < 256) × AreBytes n bs
 
 -- the big-endian number of the first eight bytes

@@ -2,7 +2,7 @@
 -- notation; its output has the marked files in the set, and the directories that a pruned walk
 -- enters.
 -- Cited by contracts of public items through FoundFiles, LineFaults, Program.
-use Rattle.std.specs.Prelude.{ℕ, Bool, true, false, List, [], ◌∷◌, ◌++◌, cond, length, is_ok, nat_lt, Result, Ok, Err, ◌≡◌, not, ◌&&◌, ◌||◌, codes, flat_map}
+use Rattle.std.specs.Prelude.{ℕ, Bool, true, false, List, [], ◌∷◌, ◌++◌, if◌then◌else◌, length, is_ok, nat_lt, Result, Ok, Err, ◌≡◌, not, ◌&&◌, ◌||◌, codes, flat_map}
 use Rattle.std.specs.List.{zip}
 use Rattle.jj_paths.specs.Paths.{Path, components, is_path_string, Name, path_string}
 use Rattle.jj_globs.specs.GlobSyntax.{tokens_of}
@@ -82,8 +82,8 @@ walk_act state Mark paths globs =
 walk_act state (Push word) paths globs = Ok (record
     { marks = state.marks; stack = one (named_set word paths globs) ∷ state.stack })
 walk_act state (Combine combination) paths globs =
-    cond (nat_lt (length state.stack) 2) (Err EmptyStack) (Ok (record
-    { marks = state.marks; stack = combined_stack combination state.stack }))
+    if nat_lt (length state.stack) 2 then Err EmptyStack else Ok (record
+    { marks = state.marks; stack = combined_stack combination state.stack })
 
 -- the action, the paths and the globs of a line
 abbrev pub walk_line : List (List ℕ) → Result (WalkForm × List Path × List GlobSpec) LineFault

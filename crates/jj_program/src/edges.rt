@@ -1,5 +1,5 @@
 //! The adjacency lists of the input, as parts of one array.
-ghost use Rattle.std.specs.Prelude.{◌≡◌, ◌==◌, ◌<◌, ◌+◌, ◌^◌, ℕ, IsTrue, MatchResult, Some, None, cond, get_or, is_some, length, not, IfOk};
+ghost use Rattle.std.specs.Prelude.{◌≡◌, ◌==◌, ◌<◌, ◌+◌, ◌^◌, ℕ, IsTrue, MatchResult, Some, None, if◌then◌else◌, is_some, length, not, slice_index_or, IfOk};
 ghost use Rattle.jj_program.specs.Parts.{AreParts, entry_part, part_in};
 
 use std::alloc::{AllocError, Global};
@@ -40,7 +40,7 @@ impl Edges {
     pub(crate) fn list(&mut self, id: u64, neighbors: &[u64]) -> Result<bool, AllocError>
         ensures first { IfOk result (λ first. first ≡ not (is_some (listed_by self.old id))) }
         ensures listed { IfOk result (λ first. IsTrue first → listed_by self.new ≡ (λ other.
-            cond (id == other) (Some neighbors.now) (listed_by self.old other))) }
+            if id == other then Some neighbors.now else listed_by self.old other)) }
     {
         let start = self.targets.len();
         self.targets.extend_from_slice(neighbors)?;
@@ -95,12 +95,12 @@ fn put(
 ) -> Result<bool, AllocError>
     requires { index + 1 < 2 ^ 64 }
     ensures first { IfOk result (λ first.
-        first ≡ not (is_some (entry_part (get_or table.old.items index (1, 0))))) }
+        first ≡ not (is_some (entry_part (slice_index_or table.old.items index (1, 0))))) }
     ensures entries { MatchResult result
-        (λ _. (other : ℕ) → get_or table.new.items other (1, 0)
-        ≡ cond (index == other) part (get_or table.old.items other (1, 0)))
-        (λ _. (other : ℕ) → get_or table.new.items other (1, 0)
-        ≡ get_or table.old.items other (1, 0)) }
+        (λ _. (other : ℕ) → slice_index_or table.new.items other (1, 0)
+        ≡ (if index == other then part else slice_index_or table.old.items other (1, 0)))
+        (λ _. (other : ℕ) → slice_index_or table.new.items other (1, 0)
+        ≡ slice_index_or table.old.items other (1, 0)) }
 {
     if table.len() <= index {
         table.resize(index + 1, NO_PART)?;
@@ -112,7 +112,7 @@ fn put(
 
 // Returns the part at an index, which may be past the end of the table.
 fn table_part(table: &[(usize, usize)], index: u64) -> Option<(usize, usize)>
-    ensures { result ≡ entry_part (get_or table.now index (1, 0)) }
+    ensures { result ≡ entry_part (slice_index_or table.now index (1, 0)) }
 {
     if index < table.len() as u64 {
         entry_part(table[index as usize])

@@ -1,6 +1,6 @@
 //! The command `graph`: reads adjacency lists, then prints the topological order, the heads or the
 //! closest common nodes of the ids of each request.
-ghost use Rattle.std.specs.Prelude.{◌≡◌, ◌↔◌, ◌<◌, ◌++◌, ℕ, All, IsTrue, List, None, Some, cond, Ok, IfOk, IfErr, OnOk, length, string_bytes};
+ghost use Rattle.std.specs.Prelude.{◌≡◌, ◌↔◌, ◌<◌, ◌++◌, ℕ, All, IsTrue, List, None, Some, if◌then◌else◌, Ok, IfOk, IfErr, OnOk, length, string_bytes};
 ghost use Rattle.std.specs.List.{Contains};
 ghost use Rattle.std.specs.Str.Parse.{digits_value};
 ghost use Rattle.jj_program.specs.Lines.{IsFaultOf, Agrees, texts_of};
@@ -52,7 +52,7 @@ impl<'t> Field<'t> for u64 {
 
 // Parses a decimal number below 2^64. A sign and leading zeros are invalid.
 fn parse_number(text: &str) -> Option<u64>
-    ensures { result ≡ cond (is_number text.now) (Some (digits_value 10 text.now)) None }
+    ensures { result ≡ (if is_number text.now then Some (digits_value 10 text.now) else None) }
 {
     let digits = text.as_bytes();
     if !is_plain(digits) {
@@ -68,7 +68,7 @@ fn parse_number(text: &str) -> Option<u64>
 fn parse_digits(digits: &[u8]) -> Option<u64>
     requires plain { IsPlain digits.now }
     requires short { length digits.now < 20 }
-    ensures { result ≡ cond (is_number digits.now) (Some (digits_value 10 digits.now)) None }
+    ensures { result ≡ (if is_number digits.now then Some (digits_value 10 digits.now) else None) }
 {
     let mut value = 0;
     for byte in digits {

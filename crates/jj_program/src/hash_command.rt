@@ -65,7 +65,7 @@ impl<'t> Reading<'t> for HashReading {
 }
 
 // Returns the output of `hash` for an input.
-pub(crate) fn hash_lines(alloc: Global, text: &str) -> Result<Vec<u8>, Failure<Fault>>
+pub(crate) fn hash_output(alloc: Global, text: &str) -> Result<Vec<u8>, Failure<Fault>>
     ensures done { IfOk result (λ output. hash_output text.now ≡ Ok output.items) }
     ensures fault { IfErr result (λ fault. IsFaultOf fault (hash_output text.now)) }
 {

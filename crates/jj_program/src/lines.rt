@@ -1,6 +1,6 @@
 //! The line loop that all commands share: splits the input into lines and fields, and passes each
 //! nonempty line to the command. The format of output lines.
-ghost use Rattle.std.specs.Prelude.{◌≡◌, ◌==◌, ◌||◌, ◌+◌, ◌++◌, ◌<◌, ◌≤◌, get_or, length, map, false, List, ℕ, Result, IfOk, OnOk};
+ghost use Rattle.std.specs.Prelude.{◌≡◌, ◌==◌, ◌||◌, ◌+◌, ◌++◌, ◌<◌, ◌≤◌, slice_index, length, map, false, List, ℕ, Result, IfOk, OnOk};
 ghost use Rattle.std.specs.List.{before_first, position_or_len};
 ghost use Rattle.jj_program.specs.declared.fault.LineFault.{LineFault};
 ghost use Rattle.jj_program.specs.Lines.{lines_of, line_text, fields_of, after_line, after_lines, LeadsTo, texts_of};
@@ -116,8 +116,8 @@ fn field_len(bytes: &[u8]) -> usize
 // Returns the number of bytes before the first TAB or LF. None of the first `near` bytes is one.
 fn field_len_from(bytes: &[u8], near: usize) -> usize
     requires within { near ≤ length bytes.now }
-    requires none { (k : ℕ) → k < near → (get_or bytes.now k 0 == 9 || get_or bytes.now k 0 == 10)
-        ≡ false }
+    requires none { (k : ℕ) → k < near
+        → (slice_index bytes.now k == 9 || slice_index bytes.now k == 10) ≡ false }
     ensures { result ≡ position_or_len (λ b. b == 9 || b == 10) bytes.now }
 {
     match memchr2(b'\t', b'\n', &bytes[near..]) {

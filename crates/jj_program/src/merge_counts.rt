@@ -158,7 +158,7 @@ pub(crate) fn outcome_of_counts<'t>(
             if added.is_some() {
                 return None;
             }
-            if is_repeated(same_change, count.adds, count.removes) {
+            if is_kept_duplicate(same_change, count.adds, count.removes) {
                 return None;
             }
             added = Some(count.text);
@@ -177,7 +177,7 @@ pub(crate) fn outcome_of_counts<'t>(
 }
 
 // Whether several sides made this change, which `Keep` leaves unresolved.
-fn is_repeated(same_change: SameChange, adds: usize, removes: usize) -> bool
+fn is_kept_duplicate(same_change: SameChange, adds: usize, removes: usize) -> bool
     requires { removes < adds }
     ensures { IsTrue result ↔ ((same_change ≡ SameChange.Keep) × (adds ≢ removes + 1)) }
 {

@@ -1,6 +1,6 @@
 //! Trivial resolution of a merge of strings in O(n log n), or O(n) for few distinct values or few
 //! that do not cancel: cancels adds with equal removes by hints, then by merging sorted lists.
-ghost use Rattle.std.specs.Prelude.{◌≡◌, ◌+◌, ◌<◌, ◌⊎◌, IfOk, IsTrue, None, cond, count_by, length};
+ghost use Rattle.std.specs.Prelude.{◌≡◌, ◌+◌, ◌<◌, ◌⊎◌, IfOk, IsTrue, None, if◌then◌else◌, count_by, length};
 ghost use Rattle.std.specs.Str.{bytes_eq};
 ghost use Rattle.std.specs.List.Sorted.{IsSorted};
 ghost use Rattle.jj_merges.specs.Merge.{IsOdd};
@@ -100,7 +100,7 @@ fn count_of(terms: &[&str], value: &str) -> (usize, usize)
 
 // Returns 1 for equal strings, else 0.
 fn one_if_equal(value: &str, other: &str) -> usize
-    ensures { result ≡ cond (bytes_eq value.now other.now) 1 0 }
+    ensures { result ≡ (if bytes_eq value.now other.now then 1 else 0) }
 {
     if value == other { 1 } else { 0 }
 }

@@ -10,7 +10,7 @@ ghost use Rattle.jj_program.specs.declared.fault.Fault.{Fault};
 
 pub use crate::fault::{Fault, LineFault};
 use crate::graph_command::graph_output;
-use crate::hash_command::hash_lines;
+use crate::hash_command::hash_output;
 use crate::merge_command::merge_output;
 use crate::walk_command::walk_output;
 use jj_files::file_util::{Sink, Source};
@@ -58,7 +58,7 @@ fn output(alloc: Global, command: Command, input: &[u8]) -> Result<Vec<u8>, Fail
         Command::Walk => walk_output(alloc, text),
         Command::Merge => merge_output(alloc, text),
         Command::Graph => graph_output(alloc, text),
-        Command::Hash => hash_lines(alloc, text),
+        Command::Hash => hash_output(alloc, text),
     }
 }
 

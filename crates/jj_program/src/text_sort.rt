@@ -1,6 +1,6 @@
 //! Sorting of strings by their first eight bytes as one number, and by all bytes only where these
 //! are equal.
-ghost use Rattle.std.specs.Prelude.{◌≡◌, ◌<◌, All, OnOk, get_or, map};
+ghost use Rattle.std.specs.Prelude.{◌≡◌, ◌<◌, All, OnOk, map, slice_index};
 ghost use Rattle.std.specs.List.Sorted.{IsPermutation, IsSorted};
 ghost use Rattle.jj_program.specs.MergeViews.{text_cmp};
 ghost use Rattle.jj_program.specs.TextKeys.{IsEntry, IsKeyOf, text_of};
@@ -65,7 +65,7 @@ pub(crate) fn key_of(bytes: &[u8]) -> u64
 
 // Returns a byte, or 0 past the end.
 fn byte_at(bytes: &[u8], index: usize) -> u64
-    ensures value { result ≡ get_or bytes.now index 0 }
+    ensures value { result ≡ slice_index bytes.now index }
     ensures byte { result < 256 }
 {
     if index < bytes.len() {

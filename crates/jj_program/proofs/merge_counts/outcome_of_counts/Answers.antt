@@ -2,7 +2,7 @@ use Rattle.std.proofs.Common.{◌∙◌, arith, sym}
 use Rattle.jj_merges.proofs.ResolutionScan.{is_keep, is_not_keep}
 use Rattle.jj_program.proofs.CountDecisions.{balanced, conflict_added, conflict_kept, conflict_removed, conflict_repeated, decided_at_end, first_added, first_removed, start}
 use Rattle.jj_program.proofs.merge_counts.outcome_of_counts.Goals as goal
-use Rattle.jj_program.proofs.merge_counts.outcome_of_counts.Goals.{then-count+else-is_some+else-is_repeated, else-count+then-count-2+else-eq+else-is_some-2, else-count+else-count-2}
+use Rattle.jj_program.proofs.merge_counts.outcome_of_counts.Goals.{then-count+else-is_some+else-is_kept_duplicate, else-count+then-count-2+else-eq+else-is_some-2, else-count+else-count-2}
 
 pub loop-index-init : goal.loop-index-init
 loop-index-init c = record {
@@ -15,10 +15,10 @@ returns-then-is_some c terms all =
     conflict_added c.args.counts.now c.args.same_change c.loop-index.index c.loop-index-test.true terms all
     c.loop-index.added c.loop-index.removed (sym c.is_some.ensures ∙ c.if-is_some.true) c.if-count.true c.loop-index.invariant.decided
 
-pub returns-then-is_repeated : goal.returns-then-is_repeated
-returns-then-is_repeated c terms all =
+pub returns-then-is_kept_duplicate : goal.returns-then-is_kept_duplicate
+returns-then-is_kept_duplicate c terms all =
     conflict_repeated c.args.counts.now c.args.same_change c.loop-index.index c.loop-index-test.true terms all
-    (c.is_repeated.ensures.0 c.if-is_repeated.true) c.if-count.true
+    (c.is_kept_duplicate.ensures.0 c.if-is_kept_duplicate.true) c.if-count.true
 
 pub returns-then-eq : goal.returns-then-eq
 returns-then-eq c terms all =
@@ -36,11 +36,11 @@ loop-index-preserved c =
     let change = c.args.same_change in
     let k = c.loop-index.index in
     elim c.if-count.branch [
-      | then-count+else-is_some+else-is_repeated w ↦
+      | then-count+else-is_some+else-is_kept_duplicate w ↦
           rw (w.added-is, w.removed-is) (record {
             decided = first_added counts change k c.loop-index-test.true c.loop-index.added c.loop-index.removed
                 (sym w.is_some.ensures ∙ w.if-is_some.false) w.if-count.true
-                (λ repeated. let yes = w.is_repeated.ensures.1 repeated in let no = w.if-is_repeated.false in cc)
+                (λ repeated. let yes = w.is_kept_duplicate.ensures.1 repeated in let no = w.if-is_kept_duplicate.false in cc)
                 c.loop-index.invariant.decided;
             within = omega arith;
           })

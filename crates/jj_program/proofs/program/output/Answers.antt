@@ -26,5 +26,5 @@ returns-in-Graph c =
 
 pub returns-in-Hash : goal.returns-in-Hash
 returns-in-Hash c =
-    let known = known_answer c.args.command Hash c.args.input.now c.in-Ok.text.now c.hash_lines.result c.in-Hash.is c.in-Ok.ensures.cases (λ output. output.items) hash_output (λ _ e. e) c.hash_lines.ensures.done c.hash_lines.ensures.fault in
+    let known = known_answer c.args.command Hash c.args.input.now c.in-Ok.text.now c.hash_output.result c.in-Hash.is c.in-Ok.ensures.cases (λ output. output.items) hash_output (λ _ e. e) c.hash_output.ensures.done c.hash_output.ensures.fault in
     record { done = known.0; fault = known.1 }

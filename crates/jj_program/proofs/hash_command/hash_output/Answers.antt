@@ -1,6 +1,6 @@
 use Rattle.std.proofs.Common.{◌∙◌, [], Ok, ap, sym}
 use Rattle.std.proofs.lemmas.Result.{err_from_is_err_and}
-use Rattle.jj_program.proofs.hash_command.hash_lines.Goals as goal
+use Rattle.jj_program.proofs.hash_command.hash_output.Goals as goal
 
 pub returns-in_err-take_lines-clause-fault : goal.returns-in_err-take_lines-clause-fault
 returns-in_err-take_lines-clause-fault c =
