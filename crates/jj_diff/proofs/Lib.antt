@@ -1,6 +1,7 @@
 pub mod CommonEnds
 pub mod Gaps
 pub mod HunkEnds
+pub mod HunkRanges
 pub mod Progress
 pub mod Rows
 pub mod Slices

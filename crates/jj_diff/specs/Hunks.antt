@@ -1,7 +1,9 @@
 -- Hunks of a comparison.
--- Cited by contracts of public items: AllMatch, AreTrimmed, IsDiff, IsDiffBy, MatchesEnds.
+-- Cited by contracts of public items: AllMatch, AreTrimmed, IsDiff, IsDiffBy, MatchesEnds,
+-- hunk_ranges.
 use Rattle.std.specs.Prelude.{◌≡◌, ◌≢◌, ℕ, ◌+◌, ◌-◌, ◌<◌, ◌≤◌, List, [], ◌∷◌, length, map, take, All, slice_index}
 use Rattle.std.specs.List.{slice_index_or, slice_range}
+use Rattle.std.specs.declared.ops.Range.{Range}
 use Rattle.jj_diff.specs.declared.diff.hunks.DiffHunk.{DiffHunk}
 use Rattle.jj_diff.specs.declared.diff.hunks.DiffHunkKind.{DiffHunkKind}
 use Rattle.jj_diff.specs.declared.diff.hunks.DiffHunkKind.TheVariants.{Matching, Different}
@@ -45,6 +47,14 @@ IsHunk = IsHunkBy (λ text. text)
 -- the hunks compare the inputs, and matching hunks have equal parts
 abbrev pub IsDiff : Tokenizer → List (List ℕ) → List DiffHunk → Type 0
 IsDiff = IsDiffBy (λ text. text)
+
+-- where part i of each hunk is, if the first one is at `start` and each other one follows the one
+-- before it
+abbrev pub hunk_ranges : ℕ → ℕ → List DiffHunk → List (Range ℕ)
+hunk_ranges i start [] = []
+hunk_ranges i start (hunk ∷ hunks) =
+    record { start = start; end = start + length (slice_index_or (row_of hunk) i []) }
+    ∷ hunk_ranges i (start + length (slice_index_or (row_of hunk) i [])) hunks
 
 -- not all parts of the row start with the same tokens, and not all end with the same tokens
 pub record IsTrimmed (tokenizer : Tokenizer) (row : List (List ℕ)) : Type 0 where

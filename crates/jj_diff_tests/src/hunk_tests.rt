@@ -56,6 +56,17 @@ fn versions(rt: HostRuntime) -> Result<(), Fail> {
 }
 
 #[test]
+fn hunk_ranges(rt: HostRuntime) -> Result<(), Fail> {
+    let alloc = rt.alloc();
+    let compared = ContentDiff::by_line(alloc, &[b"a\nb\nc\n".as_slice(), b"a\nc\nd\n"])?;
+    let left = compared.hunk_ranges(alloc, 0)?;
+    assert_eq!(rt; left.as_slice(), [0..2, 2..4, 4..6, 6..6].as_slice());
+    let right = compared.hunk_ranges(alloc, 1)?;
+    assert_eq!(rt; right.as_slice(), [0..2, 2..2, 2..4, 4..6].as_slice());
+    Ok(())
+}
+
+#[test]
 fn repeated_block(rt: HostRuntime) -> Result<(), Fail> {
     let alloc = rt.alloc();
     let left = "{\none\n}\n{\ntwo\n}\n";

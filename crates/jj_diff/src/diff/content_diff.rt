@@ -1,8 +1,9 @@
 //! `ContentDiff`: the comparison of any number of inputs, by lines, by words or by both.
-ghost use Rattle.std.specs.Prelude.{◌≡◌, ◌≤◌, List, length, IfOk, OnOk, OnErr};
+ghost use Rattle.std.specs.Prelude.{◌≡◌, ◌≤◌, List, [], length, map, IfOk, OnOk, OnErr};
+ghost use Rattle.std.specs.List.{slice_index_or};
 ghost use Rattle.std.specs.Slice.Iter.{iter_rest};
-ghost use Rattle.jj_diff.specs.Inputs.{AreEqual, AreEqualBy, bytes_of};
-ghost use Rattle.jj_diff.specs.Hunks.{AllMatch, AreTrimmed, IsDiff, IsDiffBy, MatchesEnds};
+ghost use Rattle.jj_diff.specs.Inputs.{AreEqual, AreEqualBy, bytes_of, side};
+ghost use Rattle.jj_diff.specs.Hunks.{AllMatch, AreTrimmed, IsDiff, IsDiffBy, MatchesEnds, hunk_ranges, row_of};
 ghost use Rattle.jj_diff.specs.declared.diff.tokens.Tokenizer.{Tokenizer};
 
 use super::compare::{CompareBytes, CompareBytesExactly};
@@ -10,8 +11,10 @@ use super::diff_by_line;
 use super::hunks::{DiffHunk, compared_hunks, single_hunk};
 use super::refine::{matched_regions, refine_compared_regions};
 use super::regions::find_compared_regions;
+use super::rows::offset_after;
 use super::tokens::Tokenizer;
 use std::alloc::{AllocError, Global};
+use std::ops::Range;
 use std::slice::Iter;
 
 /// A comparison of any number of inputs.
@@ -25,6 +28,34 @@ pub struct ContentDiff<'a> {
 
 /// Iterates over hunks.
 pub type DiffHunkIterator<'b, 'a> = Iter<'b, DiffHunk<'a>>;
+
+// Returns part number `index` of the row, or an empty one if there is none.
+fn part_of<'a>(row: &[&'a [u8]], index: usize) -> &'a [u8]
+    ensures { result.now ≡ slice_index_or (bytes_of row.now) index [] }
+{
+    if index < row.len() { row[index] } else { &[] }
+}
+
+// Returns where each hunk is in the input `text`, which consists of their parts.
+#[tactic(auto, using(crate::proofs::HunkRanges::range_steps))]
+fn ranges_within(
+    alloc: Global,
+    text: &[u8],
+    hunks: &[DiffHunk],
+    input: usize,
+) -> Result<Vec<Range<usize>>, AllocError>
+    requires { side input (map row_of hunks.now) ≡ text.now }
+    ensures { IfOk result (λ ranges. ranges.items ≡ hunk_ranges input 0 hunks.now) }
+{
+    let mut ranges = Vec::with_capacity(alloc, hunks.len())?;
+    let mut start = 0;
+    for hunk in hunks {
+        let end = offset_after(text, start, part_of(&hunk.contents, input).len());
+        ranges.push(start..end)?;
+        start = end;
+    }
+    Ok(ranges)
+}
 
 // Compares the inputs line by line and then, between lines that match, word by word, each with
 // input `base`.
@@ -140,6 +171,18 @@ impl<'a> ContentDiff<'a> {
         let hunks = compared_hunks(alloc, tokenizer, compare, &self.inputs, &regions)?;
         self.hunks = hunks;
         Ok(())
+    }
+
+    /// Returns where each hunk is in input number `input`. The hunks have to be those of the inputs,
+    /// as after each function that returns or refines a comparison.
+    pub fn hunk_ranges(&self, alloc: Global, input: usize) -> Result<Vec<Range<usize>>, AllocError>
+        requires { side input (map row_of self.now.hunks.items)
+            ≡ slice_index_or (bytes_of self.now.inputs.items) input [] }
+        ensures { IfOk result
+            (λ ranges. ranges.items ≡ hunk_ranges input 0 self.now.hunks.items) }
+    {
+        let text = part_of(&self.inputs, input);
+        ranges_within(alloc, text, &self.hunks, input)
     }
 
     /// Returns the hunks, in order.

@@ -93,7 +93,8 @@ pub(super) fn limits(alloc: Global, inputs: &[&[u8]], len: usize) -> Result<Vec<
     Ok(result)
 }
 
-fn offset_after(input: &[u8], start: usize, len: usize) -> usize
+// Returns the offset that is `len` bytes after `start`.
+pub(super) fn offset_after(input: &[u8], start: usize, len: usize) -> usize
     requires { start + len ≤ length input.now }
     ensures { result ≡ start + len }
 {
