@@ -54,6 +54,16 @@ fn lines_without_white_space(rt: HostRuntime) -> Result<(), Fail> {
 }
 
 #[test]
+fn white_space_after_equal_lines(rt: HostRuntime) -> Result<(), Fail> {
+    let alloc = rt.alloc();
+    let left = "x\na \nb\nc\n";
+    let right = "x\na\nb\nd\n";
+    let all = show_lines(alloc, &CompareBytesIgnoreAllWhitespace, left, right)?;
+    assert_eq!(rt; all.as_slice(), b"=x\na \nb\n<c\n>d\n".as_slice());
+    Ok(())
+}
+
+#[test]
 fn refined(rt: HostRuntime) -> Result<(), Fail> {
     let alloc = rt.alloc();
     let inputs = [b"one two\nsame\n".as_slice(), b"one six\nsame\n".as_slice()];

@@ -10,6 +10,7 @@ use super::common::{common_end, common_start};
 use super::compare::{CompareBytes, CompareBytesExactly};
 use super::progress::{Progress, push_matching};
 use super::rows::{are_cuts, are_equal, are_ranges, is_empty, limits, parts};
+use super::search::at;
 use super::tokens::Tokenizer;
 use std::alloc::{AllocError, Global};
 
@@ -66,8 +67,32 @@ fn is_region<C: CompareBytes>(
     Ok(true)
 }
 
-// Moves on to the region, unless it is empty, is not equal in all inputs, overlaps what matches
-// before it or ends after `limits`.
+// Returns what is left of the region between `starts` and `limits`.
+fn clip(
+    alloc: Global,
+    region: &MatchedRegion,
+    starts: &[usize],
+    limits: &[usize],
+) -> Result<MatchedRegion, AllocError> {
+    let mut clipped = MatchedRegion {
+        starts: Vec::with_capacity(alloc, starts.len())?,
+        ends: Vec::with_capacity(alloc, limits.len())?,
+    };
+    for index in 0..region.starts.len() {
+        clipped
+            .starts
+            .push(at(&region.starts, index).max(at(starts, index)))?;
+    }
+    for index in 0..region.ends.len() {
+        clipped
+            .ends
+            .push(at(&region.ends, index).min(at(limits, index)))?;
+    }
+    Ok(clipped)
+}
+
+// Moves on to what is left of the region after what matches before it and before `limits`, unless
+// that is empty or not equal in all inputs.
 fn push_region<'a, C: CompareBytes>(
     alloc: Global,
     tokenizer: Tokenizer,
@@ -93,8 +118,9 @@ fn push_region<'a, C: CompareBytes>(
         → StartsWith n progress.old.hunks.items progress.old.at.items
         → StartsWith n progress.new.hunks.items progress.new.at.items) }
 {
-    let starts = region.starts.as_slice();
-    let ends = region.ends.as_slice();
+    let clipped = clip(alloc, region, progress.at.as_slice(), limits)?;
+    let starts = clipped.starts.as_slice();
+    let ends = clipped.ends.as_slice();
     let fits = is_region(
         alloc,
         tokenizer,
@@ -238,9 +264,10 @@ fn region_hunks<'a, C: CompareBytes>(
 
 /// Returns the hunks of the inputs whose matching ones are the tokens that all inputs start with,
 /// the regions, in order, and the tokens that all inputs end with, each as far as the tokens before
-/// and after it are equal in all inputs. Ignores a region that overlaps an earlier hunk or the last
-/// one, is empty, is not equal in all inputs or cuts a token. Inputs that are equal under the
-/// comparison are one matching hunk, or none if they are empty.
+/// and after it are equal in all inputs. Of a region that overlaps what matches before it or the
+/// last one only the rest counts. Ignores a region that is empty, is not equal in all inputs or cuts
+/// a token. Inputs that are equal under the comparison are one matching hunk, or none if they are
+/// empty.
 #[tactic(auto, using(crate::proofs::HunkEnds::compared_steps))]
 pub fn compared_hunks<'a, C: CompareBytes>(
     alloc: Global,
