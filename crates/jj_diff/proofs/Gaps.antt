@@ -7,7 +7,7 @@ use Rattle.jj_diff.specs.declared.diff.tokens.Tokenizer.{Tokenizer}
 use Rattle.jj_diff.specs.Tokens.{IsCut}
 use Rattle.jj_diff.specs.Inputs.{AreRanges, AreParts}
 use Rattle.jj_diff.specs.Ends.{suffix, IsCommonStart, IsCommonEnd}
-use Rattle.jj_diff.specs.Hunks.{AreCuts, IsTrimmed, IsTrimmedGap, AreMoved, AreMovedBack}
+use Rattle.jj_diff.specs.Hunks.{AreCuts, HasTrimmedEnds, IsTrimmedGap, AreMoved, AreMovedBack}
 use Rattle.jj_diff.proofs.Slices.{length_range, range_of_range, range_join, range_start, range_end, cut_in_range}
 
 -- One part xs of a gap, its range from p to d, and what is equal at the ends of that range.
@@ -88,7 +88,7 @@ module _ (t : Tokenizer) (row middle : List (List ℕ)) (p e : ℕ) (start : IsC
         (subst (λ xs. IsCut t xs (length (get_or middle i []) - n)) (parts i lt) (common.cuts i mt)));
   }
 
-  pub trimmed_middle : ((n : ℕ) → IsCommonStart t row n → n ≤ p) → ((n : ℕ) → IsCommonEnd t row p n → n ≤ e) → IsTrimmed t middle
+  pub trimmed_middle : ((n : ℕ) → IsCommonStart t row n → n ≤ p) → ((n : ℕ) → IsCommonEnd t row p n → n ≤ e) → HasTrimmedEnds t middle
   trimmed_middle longest_start longest_end = record {
     start = λ n common. omega (arith, longest_start (p + n) (longer_start n common));
     end = λ n common. omega (arith, longest_end (e + n) (longer_end n common));

@@ -1,4 +1,6 @@
 pub mod CommonEnds
+pub mod AnchorRegions
+pub mod Anchors
 pub mod Gaps
 pub mod HunkEnds
 pub mod HunkRanges

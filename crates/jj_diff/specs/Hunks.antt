@@ -8,9 +8,10 @@ use Rattle.jj_diff.specs.declared.diff.hunks.DiffHunk.{DiffHunk}
 use Rattle.jj_diff.specs.declared.diff.hunks.DiffHunkKind.{DiffHunkKind}
 use Rattle.jj_diff.specs.declared.diff.hunks.DiffHunkKind.TheVariants.{Matching, Different}
 use Rattle.jj_diff.specs.declared.diff.tokens.Tokenizer.{Tokenizer}
-use Rattle.jj_diff.specs.Inputs.{bytes_of, side, AreEqual, AreEqualBy, IsNonempty, AreRanges, AreParts}
+use Rattle.jj_diff.specs.Inputs.{bytes_of, side, AreEqualBy, IsNonempty, AreRanges, AreParts}
 use Rattle.jj_diff.specs.Tokens.{IsCut}
 use Rattle.jj_diff.specs.Ends.{IsCommonStart, IsCommonEnd}
+use Rattle.jj_diff.specs.Anchors.{HasFewTokens, IsCommonToken}
 
 -- the hunk's part of each input
 abbrev pub row_of : DiffHunk → List (List ℕ)
@@ -57,11 +58,19 @@ hunk_ranges i start (hunk ∷ hunks) =
     ∷ hunk_ranges i (start + length (slice_index_or (row_of hunk) i [])) hunks
 
 -- not all parts of the row start with the same tokens, and not all end with the same tokens
-pub record IsTrimmed (tokenizer : Tokenizer) (row : List (List ℕ)) : Type 0 where
+pub record HasTrimmedEnds (tokenizer : Tokenizer) (row : List (List ℕ)) : Type 0 where
   pub start : (n : ℕ) → IsCommonStart tokenizer row n → n ≡ 0
   pub end : (n : ℕ) → IsCommonEnd tokenizer row 0 n → n ≡ 0
 
--- No hunk that differs starts with a token that is equal in all inputs, nor ends with one.
+-- The parts of the row do not all start with the same tokens, nor all end with the same tokens. If
+-- each part has at most 64 tokens, then no token stands exactly once in each.
+pub record IsTrimmed (tokenizer : Tokenizer) (row : List (List ℕ)) : Type 0 where
+  pub start : (n : ℕ) → IsCommonStart tokenizer row n → n ≡ 0
+  pub end : (n : ℕ) → IsCommonEnd tokenizer row 0 n → n ≡ 0
+  pub once : HasFewTokens tokenizer row → (token : List ℕ) → ¬ (IsCommonToken tokenizer row token)
+
+-- No hunk that differs starts with a token that is equal in all inputs, nor ends with one, nor has
+-- one that stands exactly once in each part, if the parts have at most 64 tokens.
 abbrev pub AreTrimmed : Tokenizer → List DiffHunk → Type 0
 AreTrimmed tokenizer = All (λ hunk. hunk.kind ≡ Different → IsTrimmed tokenizer (row_of hunk))
 
@@ -160,6 +169,12 @@ pub record AreMoved (inputs : List (List ℕ)) (starts : List ℕ) (n : ℕ) (of
   pub len : length offsets ≡ length inputs
   pub moved : (i : ℕ) → i < length inputs → slice_index offsets i ≡ slice_index starts i + n
 
+-- each offset is the sum of a start and an offset after it
+pub record AreSums (inputs : List (List ℕ)) (starts offsets sums : List ℕ) : Type 0 where
+  pub len : length sums ≡ length inputs
+  pub sums_of : (i : ℕ) → i < length inputs
+      → slice_index sums i ≡ slice_index starts i + slice_index offsets i
+
 -- each offset is n less than its end
 pub record AreMovedBack (inputs : List (List ℕ)) (ends : List ℕ) (n : ℕ) (offsets : List ℕ)
     : Type 0 where
@@ -175,7 +190,7 @@ pub record IsTrimmedGap (tokenizer : Tokenizer) (inputs : List (List ℕ))
   pub cuts : AreCuts tokenizer inputs gap_ends
   pub after : IsMatch (λ text. text) tokenizer inputs gap_ends ends
   pub trimmed : (row : List (List ℕ)) → AreParts inputs gap_starts gap_ends row
-      → IsTrimmed tokenizer row
+      → HasTrimmedEnds tokenizer row
 
 -- The hunks compare the inputs up to `from`, and from there to `at` the inputs match.
 pub record IsProgress (form : List ℕ → List ℕ) (tokenizer : Tokenizer) (inputs : List (List ℕ))

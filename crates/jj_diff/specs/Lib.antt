@@ -5,4 +5,5 @@ pub mod Whitespace
 pub mod Compare
 pub mod Ranges
 pub mod Ends
+pub mod Anchors
 pub mod Hunks

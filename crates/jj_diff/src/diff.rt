@@ -3,6 +3,7 @@ ghost use Rattle.std.specs.Prelude.{IfOk};
 ghost use Rattle.jj_diff.specs.Inputs.{AreEqual, bytes_of};
 ghost use Rattle.jj_diff.specs.Hunks.{AllMatch, AreTrimmed, IsDiff, MatchesEnds};
 
+mod anchors;
 mod common;
 mod compare;
 mod content_diff;

@@ -1,8 +1,8 @@
 //! Hunks of two versions by lines, as `git diff --no-index --histogram -U99` (2.39.5) prints them,
 //! and words and ranges that were worked by hand.
 use jj_diff::diff::{
-    ContentDiff, DiffHunk, DiffHunkKind, diff_by_line, find_line_ranges, find_nonword_ranges,
-    find_word_ranges,
+    ContentDiff, DiffHunk, DiffHunkKind, Tokenizer, diff_by_line, find_line_ranges,
+    find_nonword_ranges, find_word_ranges, hunks_of_regions,
 };
 use std::alloc::{AllocError, Global};
 use std::ops::Range;
@@ -52,6 +52,16 @@ fn versions(rt: HostRuntime) -> Result<(), Fail> {
     assert_eq!(rt; unfinished.as_slice(), b"=a\n<b>b\n".as_slice());
     let added = show(alloc, "", "a\n")?;
     assert_eq!(rt; added.as_slice(), b"<>a\n".as_slice());
+    Ok(())
+}
+
+#[test]
+fn regions_that_no_search_found(rt: HostRuntime) -> Result<(), Fail> {
+    let alloc = rt.alloc();
+    let inputs = [b"a\nb\nc\nd\n".as_slice(), b"x\nb\ny\nd\nz\n".as_slice()];
+    let hunks = hunks_of_regions(alloc, Tokenizer::Lines, &inputs, &[])?;
+    let text = write_hunks(alloc, &hunks)?;
+    assert_eq!(rt; text.as_slice(), b"<a\n>x\n=b\n<c\n>y\n=d\n<>z\n".as_slice());
     Ok(())
 }
 

@@ -1,12 +1,15 @@
 //! Appends hunks from left to right: what matches waits until it is known how far it reaches.
 ghost use Rattle.std.specs.Prelude.{◌≡◌, ◌⊎◌, ℕ, ◌+◌, ◌<◌, ◌≤◌, List, [], length, IfOk, OnOk, slice_index};
+ghost use Rattle.std.specs.List.{slice_index_or};
 ghost use Rattle.jj_diff.specs.Inputs.{bytes_of, AreRanges, AreParts, IsNonempty};
-ghost use Rattle.jj_diff.specs.Hunks.{IsPrefixDiff, EndsIn, AreCuts, HasGap, IsMatch, IsProgress, AreTrimmed, IsTrimmed, StartsWith, matched_start, matched_end};
+ghost use Rattle.jj_diff.specs.Hunks.{IsPrefixDiff, EndsIn, AreCuts, HasGap, IsMatch, IsProgress, AreTrimmed, IsTrimmed, IsTrimmedGap, AreSums, StartsWith, matched_start, matched_end};
+ghost use Rattle.jj_diff.specs.Anchors.{HasFewTokens, IsCommonToken};
 
+use super::anchors::find_anchor;
 use super::compare::CompareBytes;
 use super::gaps::{Gap, trim_gap};
-use super::hunks::{DiffHunk, DiffHunkKind};
-use super::rows::{is_empty, parts};
+use super::hunks::{DiffHunk, DiffHunkKind, MatchedRegion};
+use super::rows::{is_empty, parts, sums};
 use super::tokens::Tokenizer;
 use std::alloc::{AllocError, Global};
 
@@ -128,9 +131,93 @@ fn push_gap<'a, C: CompareBytes>(
     Ok(())
 }
 
+// Returns where an anchor of the gap's row is in the inputs.
+fn anchor_region(
+    alloc: Global,
+    inputs: &[&[u8]],
+    gap: &Gap,
+    anchor: &MatchedRegion,
+) -> Result<MatchedRegion, AllocError>
+    requires gap { length gap.now.starts.items ≡ length inputs.now }
+    requires starts { length anchor.now.starts.items ≡ length inputs.now }
+    requires ends { length anchor.now.ends.items ≡ length inputs.now }
+    requires starts_within { (i : ℕ) → i < length inputs.now
+        → slice_index gap.now.starts.items i + slice_index anchor.now.starts.items i
+        ≤ length (slice_index_or (bytes_of inputs.now) i []) }
+    requires ends_within { (i : ℕ) → i < length inputs.now
+        → slice_index gap.now.starts.items i + slice_index anchor.now.ends.items i
+        ≤ length (slice_index_or (bytes_of inputs.now) i []) }
+    ensures starts { IfOk result (λ region. AreSums (bytes_of inputs.now) gap.now.starts.items
+        anchor.now.starts.items region.starts.items) }
+    ensures ends { IfOk result (λ region. AreSums (bytes_of inputs.now) gap.now.starts.items
+        anchor.now.ends.items region.ends.items) }
+{
+    let from = gap.starts.as_slice();
+    let first = anchor.starts.as_slice();
+    let last = anchor.ends.as_slice();
+    let starts = sums(alloc, inputs, from, first)?;
+    let ends = sums(alloc, inputs, from, last)?;
+    Ok(MatchedRegion { starts, ends })
+}
+
 impl<'a> Progress<'a> {
+    // Moves on to what matches from `starts` to `ends`, over a gap that no anchor splits. The row
+    // of the gap becomes a hunk that differs.
+    #[tactic(auto)]
+    fn pass<C: CompareBytes>(
+        &mut self,
+        alloc: Global,
+        tokenizer: Tokenizer,
+        inputs: &[&'a [u8]],
+        gap: Gap,
+        row: Vec<&'a [u8]>,
+        starts: &[usize],
+        ends: &[usize],
+    ) -> Result<(), AllocError>
+        requires some { 0 < length inputs.now }
+        requires progress { IsProgress C.canonical tokenizer (bytes_of inputs.now)
+            self.old.hunks.items self.old.from.items self.old.at.items }
+        requires gap { (self.old.hunks.items ≡ []) ⊎ HasGap (bytes_of inputs.now)
+            self.old.from.items self.old.at.items }
+        requires ranges { AreRanges (bytes_of inputs.now) self.old.at.items starts.now }
+        requires next { IsMatch C.canonical tokenizer (bytes_of inputs.now) starts.now ends.now }
+        requires trimmed { IsTrimmedGap tokenizer (bytes_of inputs.now) self.old.at.items starts.now
+            gap.starts.items gap.ends.items }
+        requires row { AreParts (bytes_of inputs.now) gap.starts.items gap.ends.items
+            (bytes_of row.items) }
+        requires once { HasFewTokens tokenizer (bytes_of row.items) → (token : List ℕ)
+            → ¬ (IsCommonToken tokenizer (bytes_of row.items) token) }
+        ensures progress { OnOk result (IsProgress C.canonical tokenizer (bytes_of inputs.now)
+            self.new.hunks.items self.new.from.items self.new.at.items) }
+        ensures at { OnOk result (self.new.at.items ≡ ends.now) }
+        ensures from { OnOk result
+            (AreRanges (bytes_of inputs.now) self.new.from.items starts.now) }
+        ensures start { OnOk result ((n : ℕ)
+            → StartsWith n self.old.hunks.items self.old.at.items
+            → StartsWith n self.new.hunks.items self.new.at.items) }
+    {
+        let next = Vec::from_slice(alloc, ends)?;
+        if is_empty(&row) {
+            self.at = next;
+            return Ok(());
+        }
+        push_gap::<C>(
+            alloc,
+            tokenizer,
+            &mut self.hunks,
+            inputs,
+            &self.from,
+            &gap,
+            row,
+        )?;
+        self.from = gap.ends;
+        self.at = next;
+        Ok(())
+    }
+
     // Moves on to what matches from `starts` to `ends`. What is before it, without the tokens that
-    // all inputs start or end with there, becomes a hunk that differs.
+    // all inputs start or end with there, is split at its anchors, and the rest of it becomes hunks
+    // that differ.
     #[tactic(auto)]
     pub(super) fn advance<C: CompareBytes>(
         &mut self,
@@ -157,24 +244,18 @@ impl<'a> Progress<'a> {
             → StartsWith n self.old.hunks.items self.old.at.items
             → StartsWith n self.new.hunks.items self.new.at.items) }
     {
-        let next = Vec::from_slice(alloc, ends)?;
         let gap = trim_gap(alloc, tokenizer, inputs, &self.at, starts)?;
         let row = parts(alloc, inputs, &gap.starts, &gap.ends)?;
-        if is_empty(&row) {
-            self.at = next;
-            return Ok(());
+        let found = find_anchor(alloc, tokenizer, &row)?;
+        match found {
+            Some(anchor) => {
+                let region = anchor_region(alloc, inputs, &gap, &anchor)?;
+                let first = region.starts.as_slice();
+                let last = region.ends.as_slice();
+                self.advance::<C>(alloc, tokenizer, inputs, first, last)?;
+                self.advance::<C>(alloc, tokenizer, inputs, starts, ends)
+            }
+            None => self.pass::<C>(alloc, tokenizer, inputs, gap, row, starts, ends),
         }
-        push_gap::<C>(
-            alloc,
-            tokenizer,
-            &mut self.hunks,
-            inputs,
-            &self.from,
-            &gap,
-            row,
-        )?;
-        self.from = gap.ends;
-        self.at = next;
-        Ok(())
     }
 }

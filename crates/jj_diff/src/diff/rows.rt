@@ -3,7 +3,7 @@ ghost use Rattle.std.specs.Prelude.{◌≡◌, ℕ, ◌+◌, ◌-◌, ◌<◌, �
 ghost use Rattle.std.specs.List.{slice_index_or};
 ghost use Rattle.jj_diff.specs.Inputs.{bytes_of, AreRanges, AreParts, AreEqualBy, IsNonempty, IsEmpty};
 ghost use Rattle.jj_diff.specs.Ends.{IsWithin};
-ghost use Rattle.jj_diff.specs.Hunks.{AreCuts, AreLimits, AreMoved, AreMovedBack};
+ghost use Rattle.jj_diff.specs.Hunks.{AreCuts, AreLimits, AreMoved, AreMovedBack, AreSums};
 
 use super::compare::CompareBytes;
 use super::tokens::Tokenizer;
@@ -116,6 +116,26 @@ pub(super) fn moved(
     let mut result = Vec::with_capacity(alloc, inputs.len())?;
     for index in 0..inputs.len() {
         result.push(offset_after(inputs[index], starts[index], len))?;
+    }
+    Ok(result)
+}
+
+// Returns the sums of the offsets and `starts`.
+pub(super) fn sums(
+    alloc: Global,
+    inputs: &[&[u8]],
+    starts: &[usize],
+    offsets: &[usize],
+) -> Result<Vec<usize>, AllocError>
+    requires len { length starts.now ≡ length inputs.now }
+    requires offsets_len { length offsets.now ≡ length inputs.now }
+    requires within { (i : ℕ) → i < length inputs.now → slice_index starts.now i
+        + slice_index offsets.now i ≤ length (slice_index_or (bytes_of inputs.now) i []) }
+    ensures { IfOk result (λ v. AreSums (bytes_of inputs.now) starts.now offsets.now v.items) }
+{
+    let mut result = Vec::with_capacity(alloc, inputs.len())?;
+    for index in 0..inputs.len() {
+        result.push(offset_after(inputs[index], starts[index], offsets[index]))?;
     }
     Ok(result)
 }

@@ -1,5 +1,4 @@
 use Rattle.std.proofs.Common.{below_more, arith, ap, sym, ◌∙◌}
-use Rattle.jj_diff.specs.Inputs.{bytes_of}
 use Rattle.jj_diff.proofs.Rows.{none_at, length-bytes_of}
 use Rattle.jj_diff.proofs.diff.rows.are_equal.Goals as goal
 

@@ -1,0 +1,6 @@
+use Rattle.std.proofs.Common.{◌≡◌, ℕ, ◌<◌, ◌≤◌}
+use Rattle.jj_diff.specs.Anchors.{token_at}
+use Rattle.jj_diff.proofs.diff.anchors.first_index.Given as goal
+
+abbrev pub invariant-loop-index : goal.invariant-loop-index
+invariant-loop-index l = (j : ℕ) → l.fn.start ≤ j → j < l.index → ¬ (token_at l.text l.offsets j ≡ l.token)
