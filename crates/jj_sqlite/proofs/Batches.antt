@@ -11,52 +11,38 @@ use Rattle.sqlite.specs.State.{State, CommitsBy, HasCleanDisk, IsLive, IsUnchang
 use Rattle.sqlite.specs.Store.{Ghosts}
 use Rattle.sqlite.specs.Tree.{Trees}
 use Rattle.sqlite_catalog.specs.Listing.{IsSound}
-use Rattle.sqlite_tied.specs.Compute.{everything}
 use Rattle.jj_mirror.specs.Entries.{LogEntryValue}
 use Rattle.jj_sqlite.specs.Batches.{IsBatch, LeavesAllOrNone, begin_statement, commit_statement}
 use Rattle.jj_sqlite.specs.Crashes.{CommitsAsIs, HasLog, RunsAsIs}
 use Rattle.jj_sqlite.specs.Inserts.{StoresEntries}
-use Rattle.jj_sqlite.specs.Tables.{HasEntries, ShowsEntries, entry_row, insert_statement, log_rows, log_schema, logged_columns}
+use Rattle.jj_sqlite.specs.Tables.{HasEntries, HasRows, ShowsEntries, entry_row, insert_statement, log_schema}
 use Rattle.jj_sqlite.proofs.Crashes.{ended, leaves}
-use Rattle.jj_sqlite.proofs.LogTable.{insert_is, insert_plain, logged, made, rolled_back, terms, unchanged}
-
-begin_is : command_of (understood log_schema begin_statement) ≡ Begin
-unfolding understood everything
-begin_is = refl
-
-begin_plain : IsPlain (understood log_schema begin_statement)
-unfolding understood everything
-begin_plain = (refl, refl)
-
-commit_is : command_of (understood log_schema commit_statement) ≡ Commits
-unfolding understood everything
-commit_is = refl
-
-commit_plain : IsPlain (understood log_schema commit_statement)
-unfolding understood everything
-commit_plain = (refl, refl)
+use Rattle.jj_sqlite.proofs.LogTable.{logged, made, rolled_back, unchanged}
+use Rattle.jj_sqlite.proofs.Statements.{begin_is, begin_plain, commit_is, commit_plain, insert_is, insert_plain, terms}
 
 -- a connection that shows the same sees the same entries
 still_shows : (old new : State) (entries : List LogEntryValue) → ShowsEntries old entries → IsUnchanged old new → ShowsEntries new entries
 still_shows old new entries has same = (
-  ap (λ (d : Database). d.schema) same.0.now_is ∙ has.0,
-  subst (λ (d : Database). map logged_columns (d.trees 0) ≡ log_rows entries) (sym same.0.now_is) has.1,
+  has.0,
+  ap (λ (d : Database). d.schema) same.0.now_is ∙ has.1,
+  subst (λ (d : Database). HasRows has.0 d.trees entries) (sym same.0.now_is) has.2,
 )
 
 -- the trees that a sound database shows are those of a log
 shown_log : (s : State) (entries : List LogEntryValue) → ShowsEntries s entries → IsDatabase s.now → HasLog s.now.trees entries
 shown_log s entries has sound = record {
-  sound = subst (λ k. IsSound k s.now.trees) has.0 sound;
-  rows = has.1;
+  counted = has.0;
+  sound = subst (λ k. IsSound k s.now.trees) has.1 sound;
+  rows = has.2;
 }
 
 -- an insertion in a transaction commits nothing
 inserts_nothing : (s : State) (entry : LogEntryValue) (entries : List LogEntryValue) (db : Trees) → ShowsEntries s entries → IsTrue s.in_transaction → ¬ CommitsBy insert_statement (entry_row entry) s db
 unfolding CommitsBy
 inserts_nothing s entry entries db has within h =
-    let known = sym h.1.is ∙ ap (λ x. understood x insert_statement) has.0 in
-    let bare = subst IsPlain (sym known) insert_plain in
-    let may = subst₂ (λ k t. MayCommit s None k t (entry_row entry) db) (ap command_of known ∙ insert_is) (ap (statement_of insert_statement) known) (rw (bare.0, bare.1, append-nil (entry_row entry)) at h.2) in
+    let known = sym h.1.is ∙ ap (λ x. understood x insert_statement) has.1 in
+    let bare = subst IsPlain (sym known) (insert_plain has.0) in
+    let may = subst₂ (λ k t. MayCommit s None k t (entry_row entry) db) (ap command_of known ∙ insert_is has.0) (ap (statement_of insert_statement) known) (rw (bare.0, bare.1, append-nil (entry_row entry)) at h.2) in
     elim may [
       | inl ends ↦ elim ends.0 [
         | inl commit ↦ let e = commit in cc
@@ -69,9 +55,9 @@ inserts_nothing s entry entries db has within h =
 commits_all : (s : State) (entries : List LogEntryValue) (db : Trees) → ShowsEntries s entries → IsDatabase s.now → IsTrue s.in_transaction → CommitsBy commit_statement [] s db → HasLog db entries
 unfolding CommitsBy
 commits_all s entries db has sound within h =
-    let known = sym h.1.is ∙ ap (λ x. understood x commit_statement) has.0 in
-    let bare = subst IsPlain (sym known) commit_plain in
-    let may = subst₂ (λ k t. MayCommit s None k t [] db) (ap command_of known ∙ commit_is) (ap (statement_of commit_statement) known) (rw (bare.0, bare.1, append-nil []) at h.2) in
+    let known = sym h.1.is ∙ ap (λ x. understood x commit_statement) has.1 in
+    let bare = subst IsPlain (sym known) (commit_plain has.0) in
+    let may = subst₂ (λ k t. MayCommit s None k t [] db) (ap command_of known ∙ commit_is has.0) (ap (statement_of commit_statement) known) (rw (bare.0, bare.1, append-nil []) at h.2) in
     elim may [
       | inl ends ↦ subst (λ (d : Trees). HasLog d entries) (sym ends.1) (shown_log s entries has sound)
       | inr write ↦ absurd (let e : true ≡ false = sym within ∙ write.0 in cc)
@@ -88,15 +74,16 @@ module _ {S : Type 0} (g : Ghosts S)
       unchanged (state g old) (state g ran.0) entries (had.now (clean now) ran.1.0.was_open) ran.1 in
       let begins = λ (now : HasCleanDisk (state g new)).
       let ran = runs now in
-      (runs_as begin_statement [] (state g ran.0) (state g new) log_schema (has now).schema Begin begin_is begin_plain count ran.2).1 in
+      (runs_as begin_statement [] (state g ran.0) (state g new) (log_schema (has now).counted) (has now).schema Begin (begin_is (has now).counted) (begin_plain (has now).counted) count ran.2).1 in
       let log = λ (now : HasCleanDisk (state g new)).
       let ran = runs now in
       let sound = subst (λ (d : Database). IsDatabase d) (sym ran.1.0.now_is) (live ran.1.0.was_open).0 in
       subst (λ (d : Database). HasLog d.trees entries) (sym (begins now).committed_is) (logged (state g ran.0) entries (has now) sound) in
       record {
         now = λ now is_open within. (
+          (has now).counted,
           ap (λ (d : Database). d.schema) (begins now).now_is ∙ (has now).schema,
-          subst (λ (d : Database). map logged_columns (d.trees 0) ≡ log_rows entries) (sym (begins now).now_is) (has now).rows,
+          subst (λ (d : Database). HasRows (has now).counted d.trees entries) (sym (begins now).now_is) (has now).rows,
         );
         committed = λ now is_open. log now;
         crash = λ now db left. leaves g settled old new entries (begins now).is_open (log now) db left;
@@ -110,14 +97,16 @@ module _ {S : Type 0} (g : Ghosts S)
       still_shows (state g old) (state g ran.0) entries (had.now (clean now) ran.1.0.was_open within) ran.1 in
       let writes = λ (now : HasCleanDisk (state g new)).
       let ran = runs now in
-      runs_as insert_statement (entry_row entry) (state g ran.0) (state g new) log_schema (has now).0 (Insert 0 (Values terms 5)) insert_is insert_plain count ran.2 in
+      runs_as insert_statement (entry_row entry) (state g ran.0) (state g new) (log_schema (has now).0) (has now).1 (Insert 0 (Values terms 5)) (insert_is (has now).0) (insert_plain (has now).0) count ran.2 in
       let log = λ (now : HasCleanDisk (state g new)).
       let ran = runs now in
       let in_same : (state g ran.0).in_transaction ≡ true = ran.1.0.mode ∙ within in
       let committed = rw in_same at (writes now).shown.committed_is in
       subst (λ (d : Database). HasLog d.trees kept) (sym (committed ∙ ran.1.0.committed_is)) (had.committed (clean now) ran.1.0.was_open) in
       record {
-        now = λ now is_open in_new. made (state g (runs now).0) entry (writes now).tally (state g new).now entries (has now) (writes now).changed;
+        now = λ now is_open in_new.
+            let rows = made (has now).0 (state g (runs now).0) entry (writes now).tally (state g new).now entries (has now).1 (has now).2 (writes now).changed in
+            ((has now).0, rows.0, rows.1);
         committed = λ now is_open. log now;
         crash = λ now db left. leaves g settled old new kept (writes now).shown.is_open (log now) db left;
       }
@@ -153,12 +142,13 @@ module _ {S : Type 0} (g : Ghosts S)
       still_shows (state g old) (state g ran.0) entries (had.now (clean now) ran.1.0.was_open within) ran.1 in
       let commits = λ (now : HasCleanDisk (state g new)).
       let ran = runs now in
-      (runs_as commit_statement [] (state g ran.0) (state g new) log_schema (has now).0 Commits commit_is commit_plain count ran.2).1 in
+      (runs_as commit_statement [] (state g ran.0) (state g new) (log_schema (has now).0) (has now).1 Commits (commit_is (has now).0) (commit_plain (has now).0) count ran.2).1 in
       let after = λ (now : HasCleanDisk (state g new)).
       let shown = commits now in
       let entries_are : HasEntries (state g new) entries = record {
-        schema = ap (λ (d : Database). d.schema) shown.now_is ∙ (has now).0;
-        rows = subst (λ (d : Database). map logged_columns (d.trees 0) ≡ log_rows entries) (sym shown.now_is) (has now).1;
+        counted = (has now).0;
+        schema = ap (λ (d : Database). d.schema) shown.now_is ∙ (has now).1;
+        rows = subst (λ (d : Database). HasRows (has now).0 d.trees entries) (sym shown.now_is) (has now).2;
         committed = shown.committed_is ∙ sym shown.now_is;
         autocommit = shown.mode;
       } in
@@ -189,8 +179,8 @@ module _ {S : Type 0} (g : Ghosts S) (old new : Held S) where
   unfolding CommitsBy
   begins_nothing s entries db has h =
       let known = sym h.1.is ∙ ap (λ x. understood x begin_statement) has.schema in
-      let bare = subst IsPlain (sym known) begin_plain in
-      let may = subst₂ (λ k t. MayCommit s None k t [] db) (ap command_of known ∙ begin_is) (ap (statement_of begin_statement) known) (rw (bare.0, bare.1, append-nil []) at h.2) in
+      let bare = subst IsPlain (sym known) (begin_plain has.counted) in
+      let may = subst₂ (λ k t. MayCommit s None k t [] db) (ap command_of known ∙ begin_is has.counted) (ap (statement_of begin_statement) known) (rw (bare.0, bare.1, append-nil []) at h.2) in
       elim may [
         | inl ends ↦ elim ends.0 [
           | inl commit ↦ let e = commit in cc

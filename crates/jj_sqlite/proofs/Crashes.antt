@@ -1,9 +1,9 @@
 -- A crash of a log: its statements, on a connection that shows what it did.
-use Rattle.std.proofs.Common.{◌≡◌, ◌∙◌, ◌⊎◌, ◌++◌, [], ◌∷◌, inl, inr, ℕ, List, Result, Ok, Err, IsTrue, sym, subst, arith}
+use Rattle.std.proofs.Common.{true, refl, ◌≡◌, ◌∙◌, ◌⊎◌, ◌++◌, [], ◌∷◌, inl, inr, ℕ, List, Result, Ok, Err, IsTrue, sym, subst, arith}
 use Rattle.sqlite.specs.Tree.{Trees}
 use Rattle.sqlite.specs.Store.{Ghosts}
 use Rattle.sqlite.specs.Order.{Row}
-use Rattle.sqlite.specs.State.{HasCleanDisk, IsLive, IsRolledBack, Survives, IsUnchanged, CommitsShowing, Executes, Shown}
+use Rattle.sqlite.specs.State.{State, HasCleanDisk, IsLive, IsRolledBack, Survives, IsUnchanged, CommitsShowing, Executes, Shown}
 use Rattle.sqlite.specs.Effect.{IsDatabase}
 use Rattle.sqlite.specs.Held.{Held, state}
 use Rattle.sqlite.specs.declared.error.Error.{Error}
@@ -11,8 +11,8 @@ use Rattle.sqlite.proofs.StateLemmas.{survives_weaker}
 use Rattle.jj_mirror.specs.Entries.{LogEntryValue}
 use Rattle.jj_sqlite.specs.Crashes.{CommitsAsIs, HasLog, RunsAsIs}
 use Rattle.jj_sqlite.specs.Inserts.{ContainsEntries, StoresEntries, WasNewOrContains}
-use Rattle.jj_sqlite.specs.Tables.{create_statement, entry_row, insert_statement, select_statement}
-use Rattle.jj_sqlite.proofs.LogTable.{failed, not_ran, twice, unchanged, unchanged_new, inserts_durably, committed_by, created_by, creates_durably, creates, keeps, keeps_not_run, shown_open, keeps_reading, reading_commits_nothing}
+use Rattle.jj_sqlite.specs.Tables.{count_statement, create_statement, entry_row, insert_statement, is_counted, select_statement}
+use Rattle.jj_sqlite.proofs.LogTable.{failed, not_ran, twice, unchanged, unchanged_new, inserts_durably, committed_by, created_by, creates_durably, creates, keeps, keeps_not_run, shown_open, keeps_reading, reading_commits_nothing, keeps_counting, counting_commits_nothing}
 
 -- a statement that ran on a connection that shows the same
 pub ran : {S : Type 0} (g : Ghosts S) (sql : List ℕ) (params : Row) (old same new : Held S) (r : Result ℕ Error) → IsUnchanged (state g old) (state g same)
@@ -106,3 +106,27 @@ module _ {S : Type 0} (g : Ghosts S)
           | inr made ↦ absurd (reading_commits_nothing (state g old) entries db (has now) made)
         ];
       }
+
+  pub kept_counting : (counts : List Row) (entries : List LogEntryValue) → is_counted (state g old).now.schema ≡ true → (HasCleanDisk (state g new) → Shown count_statement [] (state g old) (state g new) counts)
+      → Survives (state g old) (state g new) (CommitsShowing count_statement [] (state g old)) → StoresEntries g old entries → StoresEntries g new entries
+  kept_counting counts entries counted shows survives had =
+      let clean = λ (now : HasCleanDisk (state g new)). let before : HasCleanDisk (state g old) = omega (arith, survives.clean) in before in
+      let has = λ (now : HasCleanDisk (state g new)). had.now (clean now) (shown_open count_statement [] (state g old) (state g new) counts (shows now)) in
+      record {
+        now = λ now is_open. keeps_counting (state g old) (state g new) counts entries (has now) counted (shows now);
+        crash = λ now db left. elim (survives.crash now db left) [
+          | inl before ↦ had.crash (clean now) db before
+          | inr made ↦ absurd (counting_commits_nothing (state g old) entries db (has now) counted made)
+        ];
+      }
+
+-- a connection that did nothing
+pub survives_same : (s : State) (P : Trees → Type 0) → Survives s s P
+survives_same s P = record {
+  clean = omega arith;
+  shield = λ shielded. shielded;
+  counts = omega arith;
+  limit = refl;
+  closes = λ clean is_open. inl is_open;
+  crash = λ clean db left. inl left;
+}

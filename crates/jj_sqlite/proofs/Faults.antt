@@ -1,5 +1,5 @@
 -- The fault of the log that an error of opening names.
-use Rattle.std.proofs.Common.{◌≡◌, ◌≢◌, ◌∙◌, inl, inr, ℕ, zero, suc, ◌+◌, pos, List, [], ◌∷◌, map, take, slice_get, Some, sym, ap, subst, arith}
+use Rattle.std.proofs.Common.{◌≡◌, ◌≢◌, ◌∙◌, inl, inr, ℕ, zero, suc, ◌+◌, pos, List, [], ◌∷◌, ◌⊎◌, true, length, map, take, slice_get, Some, sym, ap, subst, arith}
 use Rattle.std.specs.Prelude.{Contains, IsTrue}
 use Rattle.sqlite.specs.declared.error.Error.{Error}
 use Rattle.sqlite.specs.declared.error.Error.TheVariants.{SqliteFailure}
@@ -8,7 +8,7 @@ use Rattle.sqlite.specs.declared.error.ErrorCode.TheVariants.{OutOfMemory}
 use Rattle.sqlite.specs.Held.{Held, state}
 use Rattle.sqlite.specs.Order.{Row, column}
 use Rattle.sqlite.specs.declared.types.Value.TheVariants.{Int, Text}
-use Rattle.sqlite.specs.State.{HasCleanDisk}
+use Rattle.sqlite.specs.State.{State, FailsToQuery, HasCleanDisk, Shown}
 use Rattle.sqlite.specs.Store.{Ghosts}
 use Rattle.jj_backend.specs.Objects.{Object}
 use Rattle.jj_trees.specs.MemoryObjects.{MemoryBackendValue, objects_of}
@@ -21,12 +21,12 @@ use Rattle.jj_mirror.specs.declared.error.ReplayError.{ReplayError}
 use Rattle.jj_mirror.specs.declared.error.ReplayError.TheVariants as replay
 use Rattle.jj_sqlite.specs.Inserts.{WasNewOrContains}
 use Rattle.jj_sqlite.specs.Opening.{IsOpenError, open_error, sqlite_error}
-use Rattle.jj_sqlite.specs.Rows.{IsReadError}
-use Rattle.jj_sqlite.specs.Tables.{HasEntries, log_row, log_rows, rows_after, select_statement}
+use Rattle.jj_sqlite.specs.Rows.{IsReadError, ShowsCount}
+use Rattle.jj_sqlite.specs.Tables.{HasEntries, count_statement, is_counted, log_row, log_rows, rows_after, select_statement}
 use Rattle.jj_sqlite.specs.Faults.{HasFault, HasOtherObject}
 use Rattle.jj_sqlite.specs.declared.error.OpenError.{OpenError}
-use Rattle.jj_sqlite.specs.declared.error.OpenError.TheVariants.{Memory, Sqlite, Gap, WrongObject, UnknownKind, Malformed, Backend}
-use Rattle.jj_sqlite.proofs.LogTable.{creates, unchanged_new, entry_in, entry_is, reads, same_entries, shown_rows, shown_open}
+use Rattle.jj_sqlite.specs.declared.error.OpenError.TheVariants.{Memory, Sqlite, Foreign, Gap, Lost, WrongObject, UnknownKind, Malformed, Backend}
+use Rattle.jj_sqlite.proofs.LogTable.{creates, unchanged_new, entry_in, entry_is, never_lost, reads, same_entries, shown_rows, shown_open}
 
 at_index : {A B : Type 0} (f : A → B) (xs : List A) (i : ℕ) (x : A) → slice_get xs i ≡ Some x → Contains (map f xs) (f x)
 at_index f [] zero x e = absurd cc
@@ -61,9 +61,11 @@ number_at (e ∷ entries) count (suc index) row at = number_at entries (count + 
 of_rows : (rows : List Row) (entries : List LogEntryValue) (e : OpenError) → rows ≡ log_rows entries → IsReadError rows e → HasFault entries e
 of_rows rows entries Memory are fails = tt
 of_rows rows entries (Sqlite cause) are fails = tt
+of_rows rows entries Foreign are fails = absurd fails.5.0
 of_rows rows entries (Gap count) are fails =
     let at = subst (λ (l : List Row). slice_get l fails.0 ≡ Some fails.1) are fails.3 in
     fails.5.1 (number_at entries 0 fails.0 fails.1 at ∙ ap (λ n. Int (pos n)) (omega arith))
+of_rows rows entries (Lost count) are fails = absurd fails.5.0
 of_rows rows entries (WrongObject kind id) are fails =
     let wrong = fails.5.0 in
     let entry = wrong.0 in
@@ -111,21 +113,35 @@ of_replay entries (replay.Backend error) fails =
       ),
     )
 
+-- an error of counting the rows is one of SQLite
+of_count : (old mid new : State) (rows : List Row) (entries : List LogEntryValue) (e : OpenError) → HasEntries old entries → Shown select_statement [] old mid rows → is_counted mid.now.schema ≡ true
+    → ((cause : Error) × (e ≡ sqlite_error cause) × FailsToQuery count_statement [] mid new cause)
+    ⊎ ((counts : List Row) × Shown count_statement [] mid new counts × ¬ (ShowsCount (length rows) counts) × (e ≡ Lost (length rows))) → HasFault entries e
+of_count old mid new rows entries e has shown counted (inl query) = subst (HasFault entries) (sym query.1) (of_sqlite entries query.0)
+of_count old mid new rows entries e has shown counted (inr lost) = absurd (never_lost old mid new rows lost.0 entries has shown counted lost.1 lost.2)
+
 -- if the log had these entries, they have the fault that the error names
 pub has_fault : {S : Type 0} (g : Ghosts S) (old new : Held S) (entries : List LogEntryValue) (e : OpenError) → HasCleanDisk (state g old)
     → WasNewOrContains g old entries → IsOpenError g old new e → HasFault entries e
 has_fault g old new entries e clean had fails = elim fails [
-  | inl create ↦ subst (HasFault entries) (sym create.1) (of_sqlite entries create.0)
+  | inl create ↦ elim create [
+    | inl query ↦ subst (HasFault entries) (sym query.1) (of_sqlite entries query.0)
+    | inr foreign ↦ subst (HasFault entries) (sym foreign.0) tt
+  ]
   | inr rest ↦
       let ran = rest.1.1 in
       let has : IsTrue (state g rest.0).is_open → HasEntries (state g rest.0) entries = creates (state g ran.0) (state g rest.0) rest.1.0 entries (λ _. unchanged_new (state g old) (state g ran.0) entries (had clean ran.1.0.was_open) ran.1) ran.2 in
       elim rest.2 [
         | inl read ↦ elim read [
           | inl query ↦ subst (HasFault entries) (sym query.1) (of_sqlite entries query.0)
-          | inr rows ↦ of_rows rows.0 entries e (shown_rows (state g rest.0) (state g new) rows.0 entries (has (shown_open select_statement [] (state g rest.0) (state g new) rows.0 rows.1)) rows.1) rows.2
+          | inr later ↦ elim later [
+            | inl rows ↦ of_rows rows.0 entries e (shown_rows (state g rest.0) (state g new) rows.0 entries (has (shown_open select_statement [] (state g rest.0) (state g new) rows.0 rows.1)) rows.1) rows.2
+            | inr counted ↦ of_count (state g rest.0) (state g counted.0) (state g new) counted.1 entries e (has (shown_open select_statement [] (state g rest.0) (state g counted.0) counted.1 counted.3)) counted.3 counted.6.0 counted.6.1
+          ]
         ]
         | inr replayed ↦
-            let read = reads (state g rest.0) (state g new) replayed.rows replayed.entries entries (has (shown_open select_statement [] (state g rest.0) (state g new) replayed.rows replayed.are_read)) replayed.are_read replayed.are_good in
+            let are = replayed.are_read in
+            let read = reads (state g rest.0) (state g are.read) replayed.rows replayed.entries entries (has (shown_open select_statement [] (state g rest.0) (state g are.read) replayed.rows are.shown)) are.shown replayed.are_good in
             subst (HasFault entries) (sym replayed.is_error) (of_replay entries replayed.cause (subst (λ (l : List LogEntryValue). IsReplayError l replayed.cause) read replayed.is_cause))
       ]
 ]

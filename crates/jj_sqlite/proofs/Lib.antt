@@ -1,7 +1,8 @@
 pub mod RowNumbers
+pub mod Statements
+pub mod RowErrors
 pub mod LogTable
 pub mod Crashes
 pub mod Batches
-pub mod RowErrors
 pub mod Reopened
 pub mod Faults

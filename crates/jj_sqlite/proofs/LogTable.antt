@@ -6,6 +6,7 @@ use Rattle.std.specs.List.Sorted.{IsPermutation}
 use Rattle.std.specs.declared.cmp.Ordering.TheVariants.{Less}
 use Rattle.std.proofs.lemmas.Bool.{cases_Bool}
 use Rattle.std.proofs.lemmas.List.Sorted.{All-permutation, IsPermutation-map}
+use Rattle.std.proofs.lemmas.List.{length-append, take_all}
 use Rattle.std.proofs.lemmas.List.Elements.{recursion_from_All}
 use Rattle.sqlite.specs.declared.types.Value.{Value}
 use Rattle.sqlite.specs.declared.types.Value.TheVariants.{Null, Int, Real, Text, Blob}
@@ -42,63 +43,12 @@ use Rattle.sqlite.proofs.Callers.{IsPlain, command_of, statement_of, runs_as, re
 use Rattle.jj_mirror.specs.Entries.{LogEntryValue, kind_name}
 use Rattle.jj_mirror.specs.declared.object_log.ObjectKind.{ObjectKind}
 use Rattle.jj_mirror.specs.declared.object_log.ObjectKind.TheVariants.{File, Symlink, Copy, Tree, Commit}
-use Rattle.jj_sqlite.specs.Tables.{log_table, log_schema, create_statement, insert_statement, select_statement, entry_row, log_row, log_rows, logged_columns, rows_after, HasEntries, HasOnlyRowsOf, IsNewOrHas, ShowsEntries}
+use Rattle.jj_sqlite.specs.Tables.{log_schema, count_rows, count_statement, create_statement, insert_statement, is_counted, select_statement, entry_row, log_row, log_rows, logged_columns, rows_after, CountsRowsOf, HasCount, HasEntries, HasOnlyRowsOf, HasRows, IsNewOrHas}
 use Rattle.jj_sqlite.specs.Crashes.{HasLog}
-use Rattle.jj_sqlite.specs.Rows.{AreNumbered, AreNumberedAfter, IsEntryRow, IsGoodRow}
-use Rattle.jj_sqlite.proofs.RowNumbers.{ascend, more_rows, new_row}
-
--- ---- the commands that the statements are, by computation
-
-abbrev pub terms : List Term
-terms = lit Null ∷ lit Null ∷ col 0 0 ∷ col 0 1 ∷ col 0 2 ∷ []
-
-abbrev query : Query
-query = record {
-  from = inner 0 end;
-  filter = [];
-  group = None;
-  project = col 1 0 ∷ col 1 2 ∷ col 1 3 ∷ col 1 4 ∷ [];
-  distinct = false;
-  collations = [];
-  order = (col 1 0, record { collation = Binary; descending = false }) ∷ [];
-  limit = lit (Int (negsuc 0));
-  offset = lit (Int (pos 0));
-}
-
-abbrev no_schema : Schema
-no_schema = record { tables = []; indexes = []; views = [] }
-
-create_is : (command_of (understood no_schema create_statement) ≡ CreateTable) × (statement_of create_statement (understood no_schema create_statement) ≡ create_statement) × (table_defined_by create_statement ≡ Ok log_table)
-unfolding understood everything
-create_is = (refl, refl, refl)
-
-create_plain : IsPlain (understood no_schema create_statement)
-unfolding understood everything
-create_plain = (refl, refl)
-
-again_is : command_of (understood log_schema create_statement) ≡ Nothing
-unfolding understood everything
-again_is = refl
-
-again_plain : IsPlain (understood log_schema create_statement)
-unfolding understood everything
-again_plain = (refl, refl)
-
-pub insert_is : command_of (understood log_schema insert_statement) ≡ Insert 0 (Values terms 5)
-unfolding understood everything
-insert_is = refl
-
-pub insert_plain : IsPlain (understood log_schema insert_statement)
-unfolding understood everything
-insert_plain = (refl, refl)
-
-select_is : (command_of (understood log_schema select_statement) ≡ Select (record { lets = []; body = query }) (codes "seq" ∷ codes "kind" ∷ codes "id" ∷ codes "bytes" ∷ [])) × (reads_listing log_schema select_statement ≡ false)
-unfolding understood everything
-select_is = (refl, refl)
-
-select_plain : IsPlain (understood log_schema select_statement)
-unfolding understood everything
-select_plain = (refl, refl)
+use Rattle.jj_sqlite.specs.Rows.{AreNumbered, AreNumberedAfter, IsEntryRow, IsGoodRow, ShowsCount}
+use Rattle.jj_sqlite.proofs.RowNumbers.{ascend, more_rows, next_number}
+use Rattle.jj_sqlite.proofs.RowErrors.{good_length}
+use Rattle.jj_sqlite.proofs.Statements.{again_is, again_plain, column_is, column_shows, count_plain, counted_is, counts_are, create_is, create_plain, created_made, insert_is, insert_plain, no_schema, query, row_made, same_value, select_is, select_plain, terms, went}
 
 -- ---- a connection that is open after a statement was so before
 
@@ -141,63 +91,39 @@ shown_open sql params old new rows h = showed_open old new sql h.0 (timed params
 
 -- ---- a new row
 
-either : (b : Bool) (x : Value) → cond b x x ≡ x
-either true x = refl
-either false x = refl
-
-cast_null : cast Integer Null ≡ Null
-unfolding unary
-cast_null = either _ Null
-
 -- the trees of a connection whose table has these entries
 pub logged : (s : State) (entries : List LogEntryValue) → HasEntries s entries → IsDatabase s.now → HasLog s.committed.trees entries
 logged s entries has sound =
     let same : s.now.trees ≡ s.committed.trees = ap (λ (d : Database). d.trees) (sym has.committed) in
     record {
-      sound = subst (λ (d : Trees). IsSound log_schema d) same (subst (λ k. IsSound k s.now.trees) has.schema sound);
-      rows = subst (λ (d : Trees). map logged_columns (d 0) ≡ log_rows entries) same has.rows;
+      counted = has.counted;
+      sound = subst (λ (d : Trees). IsSound (log_schema has.counted) d) same (subst (λ k. IsSound k s.now.trees) has.schema sound);
+      rows = subst (λ (d : Trees). HasRows has.counted d entries) same has.rows;
     }
 
--- a part of a statement that ended with a value did not stop on the way
-went : {B E R : Type 0} {b : B} {Stops : E → Type 0} → ((stop : E) × Stops stop × (Ok b ≡ Err stop)) ⊎ R → R
-went (inl stopped) = absurd (let e = stopped.2 in cc)
-went (inr on) = on
-
-same_value : {B E : Type 0} {a b : B} → ◌≡◌ {A = Result B E} (Ok a) (Ok b) → a ≡ b
-same_value e = cc
-
 -- an insertion makes the rows those of one more entry
-pub made : (old : State) (entry : LogEntryValue) (tally : Tally) (after : Database) (entries : List LogEntryValue) → ShowsEntries old entries
-    → Does old.step_limit (mode_of old) (entry_row entry) old.now (statement_of insert_statement (understood log_schema insert_statement)) None (Insert 0 (Values terms 5)) (Ok (tally, after))
-    → (after.schema ≡ log_schema) × (map logged_columns (after.trees 0) ≡ log_rows (entries ++ entry ∷ []))
-made old entry tally after entries has does =
-    let params = entry_row entry in
-    let db = old.now.trees in
-    let command = Insert 0 (Values terms 5) in
-    let text = statement_of insert_statement (understood log_schema insert_statement) in
-    let done = went (subst (λ s. Does old.step_limit (mode_of old) params (record old.now { schema = s }) text None command (Ok (tally, after))) has.0 does) in
-    let now = ap (λ (p : Tally × Database). p.1) (same_value (went (went done.2).2).2) in
-    let given = went done.1 in
-    let written = went (went given.2).2 in
-    let counted = went written.2 in
-    let trees : done.0.trees ≡ written.0 = ap (λ (it : Written). it.trees) (same_value counted.2) ∙ same_value counted.1 in
-    let applied = one_step log_schema _ db written.0 (edit_of db log_table [] Chosen 0 given.0) refl written.1 in
-    let n = new_row (db 0) entry in
-    let news : (edit_of db log_table [] Chosen 0 given.0).news ≡ n ∷ [] = ap (λ all. (edit_of db log_table [] Chosen 0 all).news) given.1.1 ∙ rw cast_null refl in
-    let table : after.trees 0 ≡ put_row n (db 0) = ap (λ (d : Database). d.trees 0) now ∙ ap (λ (t : Trees). t 0) trees ∙ applied.rows ∙ ap (λ all. put_all (db 0) all) news in
-    (ap (λ (d : Database). d.schema) now, ap (map logged_columns) table ∙ more_rows (db 0) entries entry has.1)
+pub made : (c : Bool) (old : State) (entry : LogEntryValue) (tally : Tally) (after : Database) (entries : List LogEntryValue) → old.now.schema ≡ log_schema c → HasRows c old.now.trees entries
+    → Does old.step_limit (mode_of old) (entry_row entry) old.now (statement_of insert_statement (understood (log_schema c) insert_statement)) None (Insert 0 (Values terms 5)) (Ok (tally, after))
+    → (after.schema ≡ log_schema c) × HasRows c after.trees (entries ++ entry ∷ [])
+made c old entry tally after entries schema has does =
+    let rows = old.now.trees 0 in
+    let row = row_made c old entry tally after (length entries) schema has.1 (next_number rows entries has.0) does in
+    let more : length entries + 1 ≡ length (entries ++ entry ∷ []) = omega (arith, length-append entries (entry ∷ [])) in
+    (row.0, (ap (map logged_columns) row.1 ∙ more_rows rows entries entry has.0, subst (HasCount c after.trees) more row.2))
 
-abbrev inserted_by : (old new : State) (entry : LogEntryValue) (count : ℕ) (entries : List LogEntryValue) → HasEntries old entries → Executes insert_statement (entry_row entry) old new (Ok count)
-    → Writes old new None (Insert 0 (Values terms 5)) (statement_of insert_statement (understood log_schema insert_statement)) (entry_row entry) count
-inserted_by old new entry count entries has h = runs_as insert_statement (entry_row entry) old new log_schema has.schema (Insert 0 (Values terms 5)) insert_is insert_plain count h
+abbrev inserted_by : (old new : State) (entry : LogEntryValue) (count : ℕ) (entries : List LogEntryValue) (has : HasEntries old entries) → Executes insert_statement (entry_row entry) old new (Ok count)
+    → Writes old new None (Insert 0 (Values terms 5)) (statement_of insert_statement (understood (log_schema has.counted) insert_statement)) (entry_row entry) count
+inserted_by old new entry count entries has h =
+    runs_as insert_statement (entry_row entry) old new (log_schema has.counted) has.schema (Insert 0 (Values terms 5)) (insert_is has.counted) (insert_plain has.counted) count h
 
 -- an insertion adds the row of its entry
 inserted : (old new : State) (entry : LogEntryValue) (count : ℕ) (entries : List LogEntryValue) → HasEntries old entries → Executes insert_statement (entry_row entry) old new (Ok count)
     → HasEntries new (entries ++ entry ∷ [])
 inserted old new entry count entries has h =
     let w = inserted_by old new entry count entries has h in
-    let rows = made old entry w.tally new.now entries (has.schema, has.rows) w.changed in
+    let rows = made has.counted old entry w.tally new.now entries has.schema has.rows w.changed in
     record {
+      counted = has.counted;
       schema = rows.0;
       rows = rows.1;
       committed = rw has.autocommit at w.shown.committed_is;
@@ -220,18 +146,19 @@ committed_by s entry entries db has h =
     let sql = insert_statement in
     let params = entry_row entry in
     let known = sym h.1.is ∙ ap (λ x. understood x sql) has.schema in
-    let bare = subst IsPlain (sym known) insert_plain in
-    let may = subst₂ (λ k t. MayCommit s None k t params db) (ap command_of known ∙ insert_is) (ap (statement_of sql) known) (rw (bare.0, bare.1, append-nil params) at h.2) in
+    let bare = subst IsPlain (sym known) (insert_plain has.counted) in
+    let may = subst₂ (λ k t. MayCommit s None k t params db) (ap command_of known ∙ insert_is has.counted) (ap (statement_of sql) known) (rw (bare.0, bare.1, append-nil params) at h.2) in
     elim may [
       | inl ends ↦ elim ends.0 [
         | inl commit ↦ absurd (let e = commit in cc)
         | inr release ↦ absurd (let e = release.2 in cc)
       ]
       | inr write ↦
-          let rows = made s entry write.1 write.2 entries (has.schema, has.rows) write.3 in
+          let rows = made has.counted s entry write.1 write.2 entries has.schema has.rows write.3 in
           record {
-            sound = subst (λ (d : Trees). IsSound log_schema d) (sym write.5) (subst (λ k. IsSound k write.2.trees) rows.0 write.4);
-            rows = subst (λ (d : Trees). map logged_columns (d 0) ≡ log_rows (entries ++ entry ∷ [])) (sym write.5) rows.1;
+            counted = has.counted;
+            sound = subst (λ (d : Trees). IsSound (log_schema has.counted) d) (sym write.5) (subst (λ k. IsSound k write.2.trees) rows.0 write.4);
+            rows = subst (λ (d : Trees). HasRows has.counted d (entries ++ entry ∷ [])) (sym write.5) rows.1;
           }
     ]
 
@@ -243,8 +170,9 @@ inserts old new entry count entries has h live = inserted old new entry count en
 
 pub unchanged : (old new : State) (entries : List LogEntryValue) → HasEntries old entries → IsUnchanged old new → HasEntries new entries
 unchanged old new entries has same = record {
+  counted = has.counted;
   schema = ap (λ (d : Database). d.schema) same.0.now_is ∙ has.schema;
-  rows = subst (λ (d : Database). map logged_columns (d.trees 0) ≡ log_rows entries) (sym same.0.now_is) has.rows;
+  rows = subst (λ (d : Database). HasRows has.counted d.trees entries) (sym same.0.now_is) has.rows;
   committed = same.0.committed_is ∙ has.committed ∙ sym same.0.now_is;
   autocommit = same.0.mode ∙ has.autocommit;
 }
@@ -254,8 +182,9 @@ rolled_back old new entries has back live =
     let both = back.undone live in
     let now = both.0 ∙ has.committed in
     record {
+      counted = has.counted;
       schema = ap (λ (d : Database). d.schema) now ∙ has.schema;
-      rows = subst (λ (d : Database). map logged_columns (d.trees 0) ≡ log_rows entries) (sym now) has.rows;
+      rows = subst (λ (d : Database). HasRows has.counted d.trees entries) (sym now) has.rows;
       committed = both.1 ∙ sym both.0;
       autocommit = back.autocommit;
     }
@@ -307,33 +236,20 @@ keeps_not_run sql params old new e entries has (inr fails) live = rolled_back ol
 
 -- ---- the table is created
 
--- the creation of the table makes it without rows
-created_made : (old : State) (tally : Tally) (after : Database) → old.now.schema ≡ no_schema → Does old.step_limit (mode_of old) [] old.now create_statement None CreateTable (Ok (tally, after))
-    → (after.schema ≡ log_schema) × (after.trees 0 ≡ [])
-created_made old tally after has does =
-    let all = went does in
-    let first = went all.1 in
-    let made = first.1 in
-    let both : Ok made.table ≡ Ok log_table = sym made.defined ∙ create_is.2 in
-    let same : made.table ≡ log_table = cc in
-    let schema : first.0.schema ≡ log_schema = made.is ∙ ap (λ s. created s made.table) has ∙ ap (created no_schema) same in
-    let plain : lacks_sequence first.0.schema ≡ false = ap lacks_sequence schema in
-    let now : after ≡ first.0 = ap (λ (p : Tally × Database). p.1) (same_value all.2) ∙ same_value (rw plain at first.2) in
-    (ap (λ (d : Database). d.schema) now ∙ schema, ap (λ (d : Database). d.trees 0) now ∙ subst (λ s. first.0.trees (next_tree s) ≡ []) has made.empty)
-
-no_rows_yet : (rows : List Row) (entries : List LogEntryValue) → rows ≡ [] → entries ≡ [] → map logged_columns rows ≡ log_rows entries
-no_rows_yet rows entries none empty = ap (map logged_columns) none ∙ sym (ap log_rows empty)
+no_rows_yet : (db : Trees) (entries : List LogEntryValue) → db 0 ≡ [] → db 1 ≡ [] → entries ≡ [] → HasRows true db entries
+no_rows_yet db entries none uncounted empty = (ap (map logged_columns) none ∙ sym (ap log_rows empty), uncounted ∙ sym (ap (λ (l : List LogEntryValue). count_rows (length l)) empty))
 
 created_table : (old new : State) (count : ℕ) (entries : List LogEntryValue) → IsNewOrHas old entries → Executes create_statement [] old new (Ok count) → HasEntries new entries
 created_table old new count entries (inl has) h =
-    unchanged old new entries has (runs_as create_statement [] old new log_schema has.schema Nothing again_is again_plain count h).0
+    unchanged old new entries has (runs_as create_statement [] old new (log_schema has.counted) has.schema Nothing (again_is has.counted) (again_plain has.counted) count h).0
 created_table old new count entries (inr none) h =
     let has = none.0.0 in
     let w = subst (λ t. Writes old new None CreateTable t [] count) create_is.1 (runs_as create_statement [] old new no_schema has CreateTable create_is.0 create_plain count h) in
     let made = created_made old w.tally new.now has w.changed in
     record {
+      counted = true;
       schema = made.0;
-      rows = no_rows_yet (new.now.trees 0) entries made.1 none.1;
+      rows = no_rows_yet new.now.trees entries made.1 made.2 none.1;
       committed = rw none.0.1 at w.shown.committed_is;
       autocommit = w.shown.mode ∙ none.0.1;
     }
@@ -343,8 +259,8 @@ pub created_by : (s : State) (entries : List LogEntryValue) (db : Trees) → IsN
 unfolding CommitsBy
 created_by s entries db (inl has) h =
     let known = sym h.1.is ∙ ap (λ x. understood x create_statement) has.schema in
-    let bare = subst IsPlain (sym known) again_plain in
-    let may = subst₂ (λ k t. MayCommit s None k t [] db) (ap command_of known ∙ again_is) (ap (statement_of create_statement) known) (rw (bare.0, bare.1, append-nil []) at h.2) in
+    let bare = subst IsPlain (sym known) (again_plain has.counted) in
+    let may = subst₂ (λ k t. MayCommit s None k t [] db) (ap command_of known ∙ again_is has.counted) (ap (statement_of create_statement) known) (rw (bare.0, bare.1, append-nil []) at h.2) in
     absurd (elim may [
       | inl ends ↦ elim ends.0 [
         | inl commit ↦ let e = commit in cc
@@ -364,8 +280,9 @@ created_by s entries db (inr none) h =
       | inr write ↦
           let made = created_made s write.1 write.2 none.0.0 write.3 in
           record {
-            sound = subst (λ (d : Trees). IsSound log_schema d) (sym write.5) (subst (λ k. IsSound k write.2.trees) made.0 write.4);
-            rows = no_rows_yet (db 0) entries (ap (λ (d : Trees). d 0) write.5 ∙ made.1) none.1;
+            counted = true;
+            sound = subst (λ (d : Trees). IsSound (log_schema true) d) (sym write.5) (subst (λ k. IsSound k write.2.trees) made.0 write.4);
+            rows = no_rows_yet db entries (ap (λ (d : Trees). d 0) write.5 ∙ made.1) (ap (λ (d : Trees). d 1) write.5 ∙ made.2) none.1;
           }
     ]
 
@@ -373,7 +290,7 @@ created_by s entries db (inr none) h =
 pub creates_durably : (old new : State) (count : ℕ) (entries : List LogEntryValue) → IsNewOrHas old entries → IsDatabase old.now → Executes create_statement [] old new (Ok count)
     → IsTrue new.is_open × HasLog new.committed.trees entries
 creates_durably old new count entries (inl has) live h =
-    let same = (runs_as create_statement [] old new log_schema has.schema Nothing again_is again_plain count h).0 in
+    let same = (runs_as create_statement [] old new (log_schema has.counted) has.schema Nothing (again_is has.counted) (again_plain has.counted) count h).0 in
     (same.0.is_open, logged new entries (unchanged old new entries has same) (subst (λ (d : Database). IsDatabase d) (sym same.0.now_is) live))
 creates_durably old new count entries (inr none) live h =
     let w = subst (λ t. Writes old new None CreateTable t [] count) create_is.1 (runs_as create_statement [] old new no_schema none.0.0 CreateTable create_is.0 create_plain count h) in
@@ -391,15 +308,31 @@ creates old new count entries had h live = created_table old new count entries (
 -- a connection that shows the same has only rows of the same entries
 still_only : (old new : State) (entries : List LogEntryValue) → HasOnlyRowsOf old entries → IsUnchanged old new → HasOnlyRowsOf new entries
 still_only old new entries has same = (
-  ap (λ (d : Database). d.schema) same.0.now_is ∙ has.0,
-  subst (λ (d : Database). All (Contains (log_rows entries)) (map logged_columns (d.trees 0))) (sym same.0.now_is) has.1,
+  has.0,
+  ap (λ (d : Database). d.schema) same.0.now_is ∙ has.1,
+  subst (λ (d : Database). All (Contains (log_rows entries)) (map logged_columns (d.trees 0))) (sym same.0.now_is) has.2,
 )
 
--- the table is there, and stays as it is
+-- the table is there, and the statement leaves all as it is
+table_stays : (c : Bool) (same new : State) (count : ℕ) → same.now.schema ≡ log_schema c → Executes create_statement [] same new (Ok count) → IsUnchanged same new
+table_stays c same new count has h = (runs_as create_statement [] same new (log_schema c) has Nothing (again_is c) (again_plain c) count h).0
+
 pub only_rows_stay : (old same new : State) (count : ℕ) (entries : List LogEntryValue) → HasOnlyRowsOf old entries → IsUnchanged old same → Executes create_statement [] same new (Ok count) → HasOnlyRowsOf new entries
 only_rows_stay old same new count entries has unchanged h =
     let before = still_only old same entries has unchanged in
-    still_only same new entries before (runs_as create_statement [] same new log_schema before.0 Nothing again_is again_plain count h).0
+    still_only same new entries before (table_stays before.0 same new count before.1 h)
+
+still_counts : (old new : State) (entries : List LogEntryValue) → CountsRowsOf old entries → IsUnchanged old new → CountsRowsOf new entries
+still_counts old new entries has same = (
+  ap (λ (d : Database). d.schema) same.0.now_is ∙ has.0,
+  subst (λ (d : Database). All (Contains (log_rows entries)) (map logged_columns (d.trees 0))) (sym same.0.now_is) has.1,
+  ap (λ (d : Database). d.trees 1) same.0.now_is ∙ has.2,
+)
+
+pub counted_rows_stay : (old same new : State) (count : ℕ) (entries : List LogEntryValue) → CountsRowsOf old entries → IsUnchanged old same → Executes create_statement [] same new (Ok count) → CountsRowsOf new entries
+counted_rows_stay old same new count entries has unchanged h =
+    let before = still_counts old same entries has unchanged in
+    still_counts same new entries before (table_stays true same new count before.0 h)
 
 -- ---- the rows are read
 
@@ -484,17 +417,17 @@ same_entries [] count = refl
 same_entries (e ∷ entries) count = λ i. entry_is (log_row (count + 1) e) e (refl, refl, refl) i ∷ same_entries entries (count + 1) i
 
 pub keeps_reading : (old new : State) (rows : List Row) (entries : List LogEntryValue) → HasEntries old entries → Shown select_statement [] old new rows → HasEntries new entries
-keeps_reading old new rows entries has h = unchanged old new entries has (shown_unchanged select_statement [] old new log_schema has.schema select_plain rows h)
+keeps_reading old new rows entries has h = unchanged old new entries has (shown_unchanged select_statement [] old new (log_schema has.counted) has.schema (select_plain has.counted) rows h)
 
 -- reading commits nothing
 pub reading_commits_nothing : (s : State) (entries : List LogEntryValue) (db : Trees) → HasEntries s entries → ¬ CommitsShowing select_statement [] s db
-reading_commits_nothing s entries db has = never_commits select_statement [] s db (subst (λ k. IsPlain (understood k select_statement)) (sym has.schema) select_plain)
+reading_commits_nothing s entries db has = never_commits select_statement [] s db (subst (λ k. IsPlain (understood k select_statement)) (sym has.schema) (select_plain has.counted))
 
 -- the rows that are shown are those of the table, in their order
 pub shown_rows : (old new : State) (rows : List Row) (entries : List LogEntryValue) → HasEntries old entries → Shown select_statement [] old new rows → rows ≡ log_rows entries
 shown_rows old new rows entries has h =
-    let answer = (reads_as select_statement [] old new log_schema has.schema _ select_is.0 select_plain select_is.1 rows h).answer in
-    shows_in_order old.now.trees entries rows has.rows (answer Null)
+    let answer = (reads_as select_statement [] old new (log_schema has.counted) has.schema _ (select_is has.counted).0 (select_plain has.counted) (select_is has.counted).1 rows h).answer in
+    shows_in_order old.now.trees entries rows has.rows.0 (answer Null)
 
 -- the entries that are read are those of the table
 pub reads : (old new : State) (rows : List Row) (read entries : List LogEntryValue) → HasEntries old entries → Shown select_statement [] old new rows → AllZip IsGoodRow rows read → read ≡ entries
@@ -561,9 +494,56 @@ all_among rows others all = go rows (recursion_from_All (Contains others) rows a
 pub reads_first : (old new : State) (rows : List Row) (read entries : List LogEntryValue) → HasOnlyRowsOf old entries → Shown select_statement [] old new rows → AllZip IsGoodRow rows read → AreNumbered rows
     → read ≡ take (length read) entries
 reads_first old new rows read entries has h good numbered =
-    let answer = (reads_as select_statement [] old new log_schema has.0 _ select_is.0 select_plain select_is.1 rows h).answer in
-    let all = All-permutation (Contains (log_rows entries)) (map logged_columns (old.now.trees 0)) rows (shows_all old.now.trees rows (answer Null)) has.1 in
+    let answer = (reads_as select_statement [] old new (log_schema has.0) has.1 _ (select_is has.0).0 (select_plain has.0) (select_is has.0).1 rows h).answer in
+    let all = All-permutation (Contains (log_rows entries)) (map logged_columns (old.now.trees 0)) rows (shows_all old.now.trees rows (answer Null)) has.2 in
     prefix rows read entries 0 good numbered (all_among rows (log_rows entries) all)
+
+-- ---- the count is read
+
+-- a database whose table has these entries counts them, or no rows
+counts_them : (old : State) (entries : List LogEntryValue) → HasEntries old entries → is_counted old.now.schema ≡ true → (old.now.schema ≡ log_schema true) × (old.now.trees 1 ≡ count_rows (length entries))
+counts_them old entries has counts =
+    let is : has.counted ≡ true = sym (counted_is has.counted) ∙ ap is_counted (sym has.schema) ∙ counts in
+    (has.schema ∙ ap log_schema is, (subst (λ (c : Bool). HasRows c old.now.trees entries) is has.rows).1)
+
+pub keeps_counting : (old new : State) (counts : List Row) (entries : List LogEntryValue) → HasEntries old entries → is_counted old.now.schema ≡ true → Shown count_statement [] old new counts → HasEntries new entries
+keeps_counting old new counts entries has counted h =
+    unchanged old new entries has (shown_unchanged count_statement [] old new (log_schema true) (counts_them old entries has counted).0 count_plain counts h)
+
+pub counting_commits_nothing : (s : State) (entries : List LogEntryValue) (db : Trees) → HasEntries s entries → is_counted s.now.schema ≡ true → ¬ CommitsShowing count_statement [] s db
+counting_commits_nothing s entries db has counted =
+    never_commits count_statement [] s db (subst (λ k. IsPlain (understood k count_statement)) (sym (counts_them s entries has counted).0) count_plain)
+
+-- the count of the entries is the one that is shown
+pub shows_length : (old new : State) (counts : List Row) (entries : List LogEntryValue) → HasEntries old entries → is_counted old.now.schema ≡ true → Shown count_statement [] old new counts
+    → ShowsCount (length entries) counts
+shows_length old new counts entries has counted h =
+    let them = counts_them old entries has counted in
+    subst (ShowsCount (length entries)) (sym (counts_are old new (length entries) counts them.0 them.1 h)) (column_shows (length entries))
+
+-- if SQLite counted these entries, all of them are read
+pub reads_all : (old mid new : State) (rows : List Row) (read entries : List LogEntryValue) → CountsRowsOf old entries → Shown select_statement [] old mid rows → AllZip IsGoodRow rows read → AreNumbered rows
+    → (is_counted mid.now.schema ≡ false) ⊎ ((counts : List Row) × Shown count_statement [] mid new counts × ShowsCount (length rows) counts) → read ≡ entries
+reads_all old mid new rows read entries has shown good numbered counted =
+    let there = still_counts old mid entries has (shown_unchanged select_statement [] old mid (log_schema true) has.0 (select_plain true) rows shown) in
+    let many : length rows ≡ length entries = elim counted [
+      | inl none ↦ absurd (let e : false ≡ true = sym none ∙ ap is_counted there.0 ∙ counted_is true in cc)
+      | inr counts ↦ column_is (length entries) (length rows) (subst (ShowsCount (length rows)) (counts_are mid new (length entries) counts.0 there.0 there.2 counts.1) counts.2)
+    ] in
+    let same : length read ≡ length entries = good_length rows read good ∙ many in
+    reads_first old mid rows read entries (true, has.0, has.1) shown good numbered ∙ take_all (length read) entries (omega (arith, same))
+
+-- as many rows as entries
+pub row_count : (entries : List LogEntryValue) (count : ℕ) → length (rows_after count entries) ≡ length entries
+row_count [] count = refl
+row_count (e ∷ entries) count = ap suc (row_count entries (count + 1))
+
+-- a database whose table has these entries shows no other count
+pub never_lost : (old mid new : State) (rows counts : List Row) (entries : List LogEntryValue) → HasEntries old entries → Shown select_statement [] old mid rows → is_counted mid.now.schema ≡ true
+    → Shown count_statement [] mid new counts → ¬ (¬ ShowsCount (length rows) counts)
+never_lost old mid new rows counts entries has shown counted shows wrong =
+    let many : length rows ≡ length entries = ap length (shown_rows old mid rows entries has shown) ∙ row_count entries 0 in
+    wrong (subst (λ n. ShowsCount n counts) (sym many) (shows_length mid new counts entries (keeps_reading old mid rows entries has shown) counted shows))
 
 -- ---- results
 

@@ -1,5 +1,5 @@
 -- The entries of a log in a database that is closed and opened again: its rows list one schema.
-use Rattle.std.proofs.Common.{◌≡◌, ◌∙◌, ◌++◌, inl, inr, ℕ, ◌+◌, pos, List, [], ◌∷◌, Result, Ok, IsTrue, map, refl, sym, ap, ap₂, subst, arith}
+use Rattle.std.proofs.Common.{◌≡◌, ◌∙◌, ◌++◌, inl, inr, ℕ, ◌+◌, pos, List, [], ◌∷◌, Bool, Result, Ok, IsTrue, map, refl, sym, ap, ap₂, subst, arith}
 use Rattle.std.specs.List.{AllZip}
 use Rattle.sqlite_catalog.specs.Listing.{IsSound, IsTableRow, IsIndexRow, IsViewRow, DefinesTable}
 use Rattle.sqlite.specs.declared.types.Value.TheVariants.{Int, Text}
@@ -13,7 +13,7 @@ use Rattle.jj_mirror.specs.Entries.{LogEntryValue}
 use Rattle.jj_sqlite.specs.Crashes.{HasLog, HasLogAfterCrash}
 use Rattle.jj_sqlite.specs.Inserts.{HasEntriesAfterCrash}
 use Rattle.jj_sqlite.proofs.LogTable.{logged}
-use Rattle.jj_sqlite.specs.Tables.{HasEntries, log_rows, log_schema, logged_columns}
+use Rattle.jj_sqlite.specs.Tables.{HasEntries, HasRows, log_schema, log_tables}
 
 texts_equal : (x y : List ℕ) → Text x ≡ Text y → x ≡ y
 texts_equal x y e = cc
@@ -51,21 +51,22 @@ none_again P Q [] (y ∷ ys) a b = absurd b
 none_again P Q (row ∷ rows) ys a b = absurd a
 
 -- a database that lists the schema of a log lists no other
-schema_is_one : (schema : Schema) (db : Trees) → IsSound log_schema db → IsSound schema db → schema ≡ log_schema
-schema_is_one schema db a b =
-    let tables : schema.tables ≡ log_schema.tables = lists_equal IsTableRow _ schema.tables log_schema.tables tables_equal b.lists.listed.tables a.lists.listed.tables in
-    let indexes : schema.indexes ≡ [] = none_again (IsIndexRow log_schema.tables) (IsIndexRow schema.tables) _ schema.indexes a.lists.listed.indexes b.lists.listed.indexes in
+schema_is_one : (c : Bool) (schema : Schema) (db : Trees) → IsSound (log_schema c) db → IsSound schema db → schema ≡ log_schema c
+schema_is_one c schema db a b =
+    let tables : schema.tables ≡ log_tables c = lists_equal IsTableRow _ schema.tables (log_tables c) tables_equal b.lists.listed.tables a.lists.listed.tables in
+    let indexes : schema.indexes ≡ [] = none_again (IsIndexRow (log_tables c)) (IsIndexRow schema.tables) _ schema.indexes a.lists.listed.indexes b.lists.listed.indexes in
     let views : schema.views ≡ [] = none_again IsViewRow IsViewRow _ schema.views a.lists.listed.views b.lists.listed.views in
     λ i. record { tables = tables i; indexes = indexes i; views = views i }
 
 -- a connection that was just opened on the trees of a log has its entries
 pub found_again : (new : State) (entries : List LogEntryValue) (db : Trees) → HasLog db entries → Opens new → IsLive new → new.committed.trees ≡ db → HasEntries new entries
 found_again new entries db has opens live same =
-    let sound : IsSound log_schema new.committed.trees = subst (λ (d : Trees). IsSound log_schema d) (sym same) has.sound in
-    let schema : new.committed.schema ≡ log_schema = schema_is_one new.committed.schema new.committed.trees sound (live opens.is_open).1 in
+    let sound : IsSound (log_schema has.counted) new.committed.trees = subst (λ (d : Trees). IsSound (log_schema has.counted) d) (sym same) has.sound in
+    let schema : new.committed.schema ≡ log_schema has.counted = schema_is_one has.counted new.committed.schema new.committed.trees sound (live opens.is_open).1 in
     record {
+      counted = has.counted;
       schema = ap (λ d. d.schema) opens.clean ∙ schema;
-      rows = subst (λ (d : Trees). map logged_columns (d 0) ≡ log_rows entries) (sym same ∙ ap (λ d. d.trees) (sym opens.clean)) has.rows;
+      rows = subst (λ (d : Trees). HasRows has.counted d entries) (sym same ∙ ap (λ d. d.trees) (sym opens.clean)) has.rows;
       committed = sym opens.clean;
       autocommit = opens.autocommit;
     }

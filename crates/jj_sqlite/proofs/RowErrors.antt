@@ -7,7 +7,7 @@ use Rattle.sqlite.specs.Order.{Row, column}
 use Rattle.jj_mirror.specs.Entries.{LogEntryValue}
 use Rattle.jj_sqlite.specs.Rows.{AreNumbered, AreNumberedAfter, IsErrorAt, IsGoodRow, IsReadError}
 use Rattle.jj_sqlite.specs.declared.error.OpenError.{OpenError}
-use Rattle.jj_sqlite.specs.declared.error.OpenError.TheVariants.{Memory, Sqlite, Gap, WrongObject, UnknownKind, Malformed, Backend}
+use Rattle.jj_sqlite.specs.declared.error.OpenError.TheVariants.{Memory, Sqlite, Foreign, Gap, Lost, WrongObject, UnknownKind, Malformed, Backend}
 
 push : (rows : List Row) (entries : List LogEntryValue) (row : Row) (entry : LogEntryValue) → AllZip IsGoodRow rows entries → IsGoodRow row entry
     → AllZip IsGoodRow (rows ++ row ∷ []) (entries ++ entry ∷ [])
@@ -58,6 +58,8 @@ read_error rows index count row entries e within at good numbered many wrong =
     go : (e : OpenError) → IsErrorAt index row e → IsReadError rows e
     go Memory wrong = tt
     go (Gap number) wrong = (index, row, entries, at, good, wrong, numbered)
+    go Foreign wrong = (index, row, entries, at, good, wrong, numbered)
+    go (Lost number) wrong = (index, row, entries, at, good, wrong, numbered)
     go (Sqlite cause) wrong = (index, row, entries, at, good, wrong, numbered)
     go (WrongObject kind id) wrong = (index, row, entries, at, good, wrong, numbered)
     go (UnknownKind id) wrong = (index, row, entries, at, good, wrong, numbered)

@@ -61,11 +61,14 @@ rows_after-append (e ∷ entries) entry count =
 abbrev pub new_row : List Row → LogEntryValue → Row
 new_row rows entry = Int (next_rowid rows) ∷ Null ∷ entry_row entry
 
+pub next_number : (rows : List Row) (entries : List LogEntryValue) → map logged_columns rows ≡ log_rows entries → next_rowid rows ≡ pos (length entries + 1)
+next_number rows entries is = next_is rows entries 0 1 (omega arith) is ∙ ap pos (omega arith)
+
 -- the row of one more entry is the last
 pub more_rows : (rows : List Row) (entries : List LogEntryValue) (entry : LogEntryValue) → map logged_columns rows ≡ log_rows entries
     → map logged_columns (put_row (new_row rows entry) rows) ≡ log_rows (entries ++ entry ∷ [])
 more_rows rows entries entry is =
-    let next : next_rowid rows ≡ pos (length entries + 1) = next_is rows entries 0 1 (omega arith) is ∙ ap pos (omega arith) in
+    let next = next_number rows entries is in
     let new = new_row rows entry in
     let id : rowid new ≡ Int (pos (0 + length entries + 1)) = ap Int (next ∙ ap pos (omega arith)) in
     let put = put_last new rows entries 0 is id in

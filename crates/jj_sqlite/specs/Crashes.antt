@@ -1,7 +1,7 @@
 -- The logs that a crash may leave in a database, and the effect of a statement on them.
 -- Cited by contracts of public items: CommitsAsIs, HasLog, HasLogAfterCrash, LeavesEntries,
 -- RunsAsIs.
-use Rattle.std.specs.Prelude.{◌≡◌, ◌⊎◌, ◌++◌, ◌∷◌, [], ℕ, List, Result, Ok, Err, map}
+use Rattle.std.specs.Prelude.{◌≡◌, ◌⊎◌, ◌++◌, ◌∷◌, [], ℕ, List, Bool, Result, Ok, Err}
 use Rattle.sqlite_catalog.specs.Listing.{IsSound}
 use Rattle.sqlite.specs.declared.error.Error.{Error}
 use Rattle.sqlite.specs.Order.{Row}
@@ -10,13 +10,14 @@ use Rattle.sqlite.specs.Store.{Ghosts}
 use Rattle.sqlite.specs.State.{HasCleanDisk, CommitsBy, Executes, IsNotRun, IsUnchanged}
 use Rattle.sqlite.specs.Held.{Held, state}
 use Rattle.jj_mirror.specs.Entries.{LogEntryValue}
-use Rattle.jj_sqlite.specs.Tables.{log_rows, log_schema, logged_columns}
+use Rattle.jj_sqlite.specs.Tables.{HasRows, log_schema}
 
 -- The database has only the table of a log, and obeys its schema. The rows are those of these
 -- entries, in their order and numbered from 1.
 pub record HasLog (db : Trees) (entries : List LogEntryValue) : Type 0 where
-  pub sound : IsSound log_schema db
-  pub rows : map logged_columns (db 0) ≡ log_rows entries
+  pub counted : Bool
+  pub sound : IsSound (log_schema counted) db
+  pub rows : HasRows counted db entries
 
 -- the log of the database has these entries, or these and one more, whose write failed
 abbrev pub HasLogAfterCrash : Trees → List LogEntryValue → Type 0

@@ -10,7 +10,7 @@ use Rattle.jj_mirror.specs.Objects.{IsObject, IsParentless, Stores}
 use Rattle.jj_mirror.specs.Replays.{HasBytesOf, HasEntry, Names}
 use Rattle.jj_sqlite.specs.Rows.{HasDigest}
 use Rattle.jj_sqlite.specs.declared.error.OpenError.{OpenError}
-use Rattle.jj_sqlite.specs.declared.error.OpenError.TheVariants.{Memory, Sqlite, Gap, WrongObject, UnknownKind, Malformed, Backend}
+use Rattle.jj_sqlite.specs.declared.error.OpenError.TheVariants.{Memory, Sqlite, Foreign, Gap, Lost, WrongObject, UnknownKind, Malformed, Backend}
 
 -- a different object of the same kind with the object's digest is initial or that of an entry
 abbrev pub HasOtherObject : List LogEntryValue → Object → Type 0
@@ -21,12 +21,14 @@ HasOtherObject entries object = (other : Object)
 
 -- The list has the fault that the error names: an entry whose id is not the digest of its object,
 -- or whose bytes are those of no object, or a commit without parents, or two objects with one
--- digest. Out of memory and an error of SQLite name no entry. No entry is missing or has an unknown
--- kind.
+-- digest. Out of memory, an error of SQLite and a database of another program name no entry. No
+-- entry is missing or has an unknown kind, and the count is that of the entries.
 abbrev pub HasFault : List LogEntryValue → OpenError → Type 0
 HasFault entries Memory = ⊤
 HasFault entries (Sqlite cause) = ⊤
+HasFault entries Foreign = ⊤
 HasFault entries (Gap count) = ⊥
+HasFault entries (Lost count) = ⊥
 HasFault entries (WrongObject kind id) =
     (entry : LogEntryValue) × Contains entries entry × Names entry kind id.items
     × ¬ (HasDigest entry)

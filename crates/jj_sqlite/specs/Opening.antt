@@ -1,7 +1,7 @@
 -- A backend that was opened from the log of a database, and the errors of opening one.
 -- Cited by contracts of public items: FailsToCreate, FailsToRead, IsCreated, IsOpenError, IsOpened,
--- open_error, sqlite_error.
-use Rattle.std.specs.Prelude.{◌≡◌, ◌⊎◌, ℕ, List, [], Ok, Err}
+-- IsRead, open_error, sqlite_error.
+use Rattle.std.specs.Prelude.{◌≡◌, ◌⊎◌, ℕ, List, [], length, false, true, Ok, Err}
 use Rattle.std.specs.List.{AllZip}
 use Rattle.sqlite.specs.declared.error.Error.{Error}
 use Rattle.sqlite.specs.declared.error.Error.TheVariants.{SqliteFailure}
@@ -16,10 +16,10 @@ use Rattle.jj_mirror.specs.Replays.{IsReplay, IsReplayError}
 use Rattle.jj_mirror.specs.declared.error.ReplayError.{ReplayError}
 use Rattle.jj_mirror.specs.declared.error.ReplayError.TheVariants as replay
 use Rattle.jj_sqlite.specs.Crashes.{RunsAsIs}
-use Rattle.jj_sqlite.specs.Tables.{create_statement, select_statement}
-use Rattle.jj_sqlite.specs.Rows.{IsGoodRow, IsReadError}
+use Rattle.jj_sqlite.specs.Tables.{count_statement, create_statement, is_counted, select_statement, IsForeign}
+use Rattle.jj_sqlite.specs.Rows.{AreNumbered, IsGoodRow, IsReadError, ShowsCount}
 use Rattle.jj_sqlite.specs.declared.error.OpenError.{OpenError}
-use Rattle.jj_sqlite.specs.declared.error.OpenError.TheVariants.{Memory, Sqlite, WrongObject, Malformed, Backend}
+use Rattle.jj_sqlite.specs.declared.error.OpenError.TheVariants.{Memory, Sqlite, Foreign, Lost, WrongObject, Malformed, Backend}
 
 -- the error of opening that an error of SQLite is
 abbrev pub sqlite_error : Error → OpenError
@@ -38,24 +38,51 @@ module _ {S : Type 0} (g : Ghosts S) (old new : Held S) where
   abbrev pub IsCreated : Type 0
   IsCreated = (count : ℕ) × RunsAsIs g create_statement [] old new (Ok count)
 
-  -- the statement that creates the table failed
+  -- the statement that creates the table failed, or the database is another program's and stays as
+  -- it is
   abbrev pub FailsToCreate : OpenError → Type 0
-  FailsToCreate e = (cause : Error) × (e ≡ sqlite_error cause)
-      × RunsAsIs g create_statement [] old new (Err cause)
+  FailsToCreate e = ((cause : Error) × (e ≡ sqlite_error cause)
+      × RunsAsIs g create_statement [] old new (Err cause))
+      ⊎ ((e ≡ Foreign) × IsForeign (state g old).now.schema × (new ≡ old))
 
-  -- the rows of the table cannot be read, or e is the error of the first row that has one
+  -- SQLite does not count rows, or has counted so many of the table
+  abbrev pub IsCounted : ℕ → Type 0
+  IsCounted count = ((is_counted (state g old).now.schema ≡ false) × (new ≡ old))
+      ⊎ ((counts : List Row) × Shown count_statement [] (state g old) (state g new) counts
+      × ShowsCount count counts)
+
+  -- SQLite counts rows, and the count cannot be read or is another
+  abbrev pub FailsToCount : ℕ → OpenError → Type 0
+  FailsToCount count e = (is_counted (state g old).now.schema ≡ true)
+      × (((cause : Error) × (e ≡ sqlite_error cause)
+      × FailsToQuery count_statement [] (state g old) (state g new) cause)
+      ⊎ ((counts : List Row) × Shown count_statement [] (state g old) (state g new) counts
+      × ¬ (ShowsCount count counts) × (e ≡ Lost count)))
+
+module _ {S : Type 0} (g : Ghosts S) (old new : Held S) where
+  -- The rows of the table were read, and then their count.
+  pub record IsRead (rows : List Row) : Type 0 where
+    pub read : Held S
+    pub shown : Shown select_statement [] (state g old) (state g read) rows
+    pub counted : IsCounted g read new (length rows)
+
+  -- The rows of the table cannot be read, or e is the error of the first row that has one, or the
+  -- rows are those of entries, and their count cannot be read or is another.
   abbrev pub FailsToRead : OpenError → Type 0
   FailsToRead e = ((cause : Error) × (e ≡ sqlite_error cause)
       × FailsToQuery select_statement [] (state g old) (state g new) cause)
       ⊎ ((rows : List Row) × Shown select_statement [] (state g old) (state g new) rows
       × IsReadError rows e)
+      ⊎ ((read : Held S) × (rows : List Row) × (entries : List LogEntryValue)
+      × Shown select_statement [] (state g old) (state g read) rows × AllZip IsGoodRow rows entries
+      × AreNumbered rows × FailsToCount g read new (length rows) e)
 
   -- The rows of the table are read, each of them is an entry whose id is the digest of its object,
   -- and the backend has the objects of these entries.
   pub record IsReplayed (backend : MemoryBackendValue) : Type 0 where
     pub rows : List Row
     pub entries : List LogEntryValue
-    pub are_read : Shown select_statement [] (state g old) (state g new) rows
+    pub are_read : IsRead rows
     pub are_good : AllZip IsGoodRow rows entries
     pub is_replay : IsReplay entries backend
 
@@ -64,7 +91,7 @@ module _ {S : Type 0} (g : Ghosts S) (old new : Held S) where
     pub rows : List Row
     pub entries : List LogEntryValue
     pub cause : ReplayError
-    pub are_read : Shown select_statement [] (state g old) (state g new) rows
+    pub are_read : IsRead rows
     pub are_good : AllZip IsGoodRow rows entries
     pub is_cause : IsReplayError entries cause
     pub is_error : e ≡ open_error cause

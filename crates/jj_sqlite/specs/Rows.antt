@@ -1,5 +1,5 @@
 -- The rows of a log's table, and the entries that are read from them.
--- Cited by contracts of public items: AreNumbered, IsGoodRow, IsReadError.
+-- Cited by contracts of public items: AreNumbered, IsGoodRow, IsReadError, ShowsCount.
 use Rattle.std.specs.Prelude.{◌≡◌, ◌≢◌, ◌⊎◌, ◌+◌, ◌≤◌, ⊤, ℕ, pos, List, [], ◌∷◌, length, take, slice_get, Some, IsUtf8}
 use Rattle.std.specs.List.{AllZip}
 use Rattle.sqlite.specs.declared.types.Value.{Value}
@@ -14,7 +14,7 @@ use Rattle.sqlite.specs.Values.{text_refusal}
 use Rattle.jj_mirror.specs.Entries.{LogEntryValue, digest_of, kind_name}
 use Rattle.jj_mirror.specs.declared.object_log.ObjectKind.{ObjectKind}
 use Rattle.jj_sqlite.specs.declared.error.OpenError.{OpenError}
-use Rattle.jj_sqlite.specs.declared.error.OpenError.TheVariants.{Memory, Sqlite, Gap, WrongObject, UnknownKind, Malformed, Backend}
+use Rattle.jj_sqlite.specs.declared.error.OpenError.TheVariants.{Memory, Sqlite, Foreign, Gap, Lost, WrongObject, UnknownKind, Malformed, Backend}
 
 -- the columns of the row are those of the entry
 abbrev pub IsEntryRow : Row → LogEntryValue → Type 0
@@ -38,6 +38,12 @@ AreNumberedAfter count (row ∷ rows) =
 -- the rows are numbered in their order, from 1
 abbrev pub AreNumbered : List Row → Type 0
 AreNumbered rows = AreNumberedAfter 0 rows
+
+-- the rows show a count of so many: no row if there are none, else one with the number
+abbrev pub ShowsCount : ℕ → List Row → Type 0
+ShowsCount count [] = count ≡ 0
+ShowsCount count (row ∷ []) = column row 0 ≡ Int (pos count)
+ShowsCount count (row ∷ other ∷ rows) = ⊥
 
 -- the value is a string in UTF-8
 abbrev pub IsString : Value → Type 0
@@ -66,6 +72,8 @@ IsRowError row (WrongObject kind id) =
 IsRowError row (UnknownKind id) = (name : List ℕ) × (column row 1 ≡ Text name)
     × (column row 2 ≡ Blob id.items) × ((kind : ObjectKind) → kind_name kind ≢ name)
 IsRowError row (Gap count) = ⊥
+IsRowError row (Lost count) = ⊥
+IsRowError row Foreign = ⊥
 IsRowError row (Malformed kind id reason offset) = ⊥
 IsRowError row (Backend error) = ⊥
 

@@ -16,9 +16,17 @@ pub enum OpenError {
     /// not of its type.
     #[error("{0}")]
     Sqlite(sqlite::Error),
+    /// The database is another program's: it has tables, indexes or views, and no table of a log.
+    #[error("the database has no table `object_log`: it is another program's")]
+    Foreign,
     /// The entry after the first `count` is missing: the next row has another number.
     #[error("the log ends after entry {count} and was longer; restore a backup")]
     Gap {
+        count: usize,
+    },
+    /// The log has `count` entries, and SQLite counted another number: the last ones are missing.
+    #[error("the log ends after entry {count}, and SQLite counted another number; restore a backup")]
+    Lost {
         count: usize,
     },
     /// An entry whose id is not the digest of its object.

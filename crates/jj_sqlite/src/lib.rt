@@ -1,6 +1,7 @@
 //! A backend that keeps its objects in an SQLite database.
 #![tactic(auto)]
 
+mod counts;
 pub mod error;
 pub mod files;
 pub mod sqlite_batch;

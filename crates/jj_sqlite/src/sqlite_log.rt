@@ -11,14 +11,15 @@ ghost use Rattle.sqlite.specs.Values.{bound};
 ghost use Rattle.jj_mirror.specs.Entries.{LogEntryValue};
 ghost use Rattle.jj_mirror.specs.Logs.{Appends, Keeps};
 ghost use Rattle.jj_sqlite.specs.Tables.{create_statement, insert_statement, select_statement};
-ghost use Rattle.jj_sqlite.specs.Tables.{entry_row, HasOnlyRowsOf};
+ghost use Rattle.jj_sqlite.specs.Tables.{entry_row, CountsRowsOf, HasOnlyRowsOf, IsForeign};
 ghost use Rattle.jj_sqlite.specs.Crashes.{CommitsAsIs, HasLog, RunsAsIs};
 ghost use Rattle.jj_sqlite.specs.Inserts.{ContainsEntries, ConvertsTo, FailsToInsert};
 ghost use Rattle.jj_sqlite.specs.Inserts.{MayFailToInsert, StoresEntries, WasNewOrContains};
 ghost use Rattle.jj_sqlite.specs.Rows.{AreNumbered, IsEntryRow, IsGoodRow};
 ghost use Rattle.jj_sqlite.specs.Rows.{IsErrorAt, IsRowError, IsReadError};
-ghost use Rattle.jj_sqlite.specs.Opening.{IsCreated, FailsToCreate, FailsToRead};
+ghost use Rattle.jj_sqlite.specs.Opening.{IsCreated, IsRead, FailsToCreate, FailsToRead};
 
+use crate::counts::check_count;
 use crate::error::OpenError;
 use jj_backend::backend::{BackendError, BackendResult};
 use jj_files::file_util::{SourceError, SourceKind};
@@ -39,8 +40,9 @@ impl<S: Alter + Drop> Drop for SqliteLog<S> {
 }
 
 impl<S: Alter> SqliteLog<S> {
-    /// Opens the log of a database, and creates its table if there is none. Fails with `Sqlite`, or
-    /// with `Memory` if memory runs out; an error returns the connection too.
+    /// Opens the log of a database, and creates its table in an empty one. Fails with `Foreign` if
+    /// the database has other tables, indexes or views and no table of a log, and else with
+    /// `Sqlite`, or with `Memory` if memory runs out; an error returns the connection too.
     pub fn over(mut conn: Connection<S>) -> Result<Self, (OpenError, Connection<S>)>
         ensures ok { IfOk result (λ log. HasCleanDisk (state S.Store log.conn)
             → IsCreated S.Store conn log.conn) }
@@ -50,6 +52,9 @@ impl<S: Alter> SqliteLog<S> {
         ensures damaged { IfOk result (λ log. HasCleanDisk (state S.Store log.conn)
             → (entries : List LogEntryValue) → HasOnlyRowsOf (state S.Store conn) entries
             → HasOnlyRowsOf (state S.Store log.conn) entries) }
+        ensures counted { IfOk result (λ log. HasCleanDisk (state S.Store log.conn)
+            → (entries : List LogEntryValue) → CountsRowsOf (state S.Store conn) entries
+            → CountsRowsOf (state S.Store log.conn) entries) }
         // If the disk has returned only what was written to it up to the end of the call, it had at
         // the start.
         ensures clean { IfOk result (λ log. HasCleanDisk (state S.Store log.conn)
@@ -61,7 +66,12 @@ impl<S: Alter> SqliteLog<S> {
             → WasNewOrContains S.Store conn entries → HasLog db entries)) }
         ensures error { IfErr result (λ e. HasCleanDisk (state S.Store e.1)
             → FailsToCreate S.Store conn e.1 e.0) }
+        // A database of another program is not opened.
+        ensures own { OnOk result (¬ (IsForeign (state S.Store conn).now.schema)) }
     {
+        if is_foreign(&conn) {
+            return Err((OpenError::Foreign, conn));
+        }
         let _schema = conn.schema();
         match create_table(&mut conn) {
             Ok(_) => Ok(SqliteLog { conn }),
@@ -69,15 +79,15 @@ impl<S: Alter> SqliteLog<S> {
         }
     }
 
-    /// Reads the entries in the order in which they were appended. Fails with `Sqlite` if the query
+    /// Reads the entries in the order in which they were appended. Fails with `Sqlite` if a query
     /// fails, at the first row that has not the next number (`Gap`), that cannot be read
     /// (`Sqlite`), whose kind is unknown (`UnknownKind`) or whose id is not the digest of its
-    /// object (`WrongObject`), and with `Memory` if memory runs out.
+    /// object (`WrongObject`), if SQLite counted another number of rows (`Lost`), and with `Memory`
+    /// if memory runs out. A table that an older version created is not counted.
     pub fn read_entries(&mut self, alloc: Global) -> Result<Vec<LogEntry>, OpenError>
         ensures rows { HasCleanDisk (state S.Store self.new.conn) → IfOk result (λ entries.
             (rows : List Row) × AllZip IsGoodRow rows entries.items × AreNumbered rows
-            × Shown select_statement [] (state S.Store self.old.conn) (state S.Store self.new.conn)
-            rows) }
+            × IsRead S.Store self.old.conn self.new.conn rows) }
         ensures entries { HasCleanDisk (state S.Store self.new.conn) → IfOk result (λ read.
             (entries : List LogEntryValue) → ContainsEntries S.Store self.old.conn entries
             → read.items ≡ entries) }
@@ -86,6 +96,10 @@ impl<S: Alter> SqliteLog<S> {
         ensures damaged { HasCleanDisk (state S.Store self.new.conn) → IfOk result (λ read.
             (entries : List LogEntryValue) → HasOnlyRowsOf (state S.Store self.old.conn) entries
             → read.items ≡ take (length read.items) entries) }
+        // If SQLite counted these entries, none is missing.
+        ensures counted { HasCleanDisk (state S.Store self.new.conn) → IfOk result (λ read.
+            (entries : List LogEntryValue) → CountsRowsOf (state S.Store self.old.conn) entries
+            → read.items ≡ entries) }
         ensures kept { OnOk result (Keeps (StoresEntries S.Store) self.old.conn self.new.conn) }
         ensures clean { HasCleanDisk (state S.Store self.new.conn)
             → HasCleanDisk (state S.Store self.old.conn) }
@@ -93,7 +107,9 @@ impl<S: Alter> SqliteLog<S> {
             → IfErr result (FailsToRead S.Store self.old.conn self.new.conn) }
     {
         let rows = select_rows(&mut self.conn)?;
-        entries_from_rows(alloc, &rows)
+        let entries = entries_from_rows(alloc, &rows)?;
+        check_count(&mut self.conn, rows.len())?;
+        Ok(entries)
     }
 
     /// Closes the log and returns its connection.
@@ -120,6 +136,15 @@ pub(crate) fn run<S: Alter>(
     statement.execute(conn, params)
 }
 
+// Returns whether the database is another program's.
+fn is_foreign<S: Alter>(conn: &Connection<S>) -> bool
+    ensures { IsTrue result ↔ IsForeign (state S.Store conn.now).now.schema }
+{
+    let schema = conn.schema();
+    let is_empty = schema.tables.is_empty() && schema.indexes.is_empty() && schema.views.is_empty();
+    schema.table_named(b"object_log").is_none() && !is_empty
+}
+
 fn create_table<S: Alter>(conn: &mut Connection<S>) -> Result<usize, Error>
     ensures runs { HasCleanDisk (state S.Store conn.new)
         → RunsAsIs S.Store create_statement [] conn.old conn.new result }
@@ -128,8 +153,8 @@ fn create_table<S: Alter>(conn: &mut Connection<S>) -> Result<usize, Error>
 {
     run(
         conn,
-        "CREATE TABLE IF NOT EXISTS object_log (seq INTEGER PRIMARY KEY, kind TEXT NOT NULL, \
-        id BLOB NOT NULL, bytes BLOB NOT NULL) STRICT",
+        "CREATE TABLE IF NOT EXISTS object_log (seq INTEGER PRIMARY KEY AUTOINCREMENT, \
+        kind TEXT NOT NULL, id BLOB NOT NULL, bytes BLOB NOT NULL) STRICT",
         &[],
     )
 }
@@ -163,7 +188,7 @@ fn entry_from_row(row: &Row) -> Result<LogEntry, OpenError>
 }
 
 // Returns whether a row has this number.
-fn has_number(row: &Row, seq: usize) -> bool
+pub(crate) fn has_number(row: &Row, seq: usize) -> bool
     ensures { IsTrue result ↔ (column row.now 0 ≡ Int (pos seq)) }
 {
     match row.get_ref(0) {

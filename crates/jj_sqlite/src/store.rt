@@ -8,7 +8,7 @@ ghost use Rattle.jj_mirror.specs.Logs.{Keeps};
 ghost use Rattle.jj_mirror.specs.Replays.{IsReplay};
 ghost use Rattle.jj_trees.specs.MemoryObjects.{digest_length};
 ghost use Rattle.jj_sqlite.specs.Inserts.{ContainsEntries, StoresEntries, WasNewOrContains};
-ghost use Rattle.jj_sqlite.specs.Tables.{HasOnlyRowsOf};
+ghost use Rattle.jj_sqlite.specs.Tables.{CountsRowsOf, HasOnlyRowsOf, IsForeign};
 ghost use Rattle.jj_sqlite.specs.Opening.{IsOpened, IsOpenError, IsReplayed};
 ghost use Rattle.jj_sqlite.specs.Opening.{FailsToRead, FailsToReplay};
 ghost use Rattle.jj_sqlite.specs.Opening.{sqlite_error};
@@ -33,6 +33,9 @@ fn replay_log<S: Alter>(alloc: Global, log: &mut SqliteLog<S>) -> Result<MemoryB
     ensures damaged { HasCleanDisk (state S.Store log.new.conn) → IfOk result (λ backend.
         (entries : List LogEntryValue) → HasOnlyRowsOf (state S.Store log.old.conn) entries
         → (count : ℕ) × IsReplay (take count entries) backend) }
+    ensures counted { HasCleanDisk (state S.Store log.new.conn) → IfOk result (λ backend.
+        (entries : List LogEntryValue) → CountsRowsOf (state S.Store log.old.conn) entries
+        → IsReplay entries backend) }
     ensures whole { IfOk result (λ backend. backend.id_length ≡ digest_length) }
     ensures kept { OnOk result (Keeps (StoresEntries S.Store) log.old.conn log.new.conn) }
     ensures clean { HasCleanDisk (state S.Store log.new.conn)
@@ -59,7 +62,7 @@ fn beside<S: Alter>(backend: MemoryBackend, log: SqliteLog<S>) -> Mirrored<Sqlit
 }
 
 /// Opens the backend whose log is in a database: reads the entries and replays them into a backend
-/// in memory. Creates the log if there is none. The backend has whole digests as ids. Fails as
+/// in memory. Creates the log in an empty database. The backend has whole digests as ids. Fails as
 /// `SqliteLog::over`, `read_entries` and `replay` do; an error returns the connection too.
 pub fn open_store<S: Alter>(
     alloc: Global,
@@ -76,6 +79,11 @@ pub fn open_store<S: Alter>(
     ensures damaged { IfOk result (λ store. HasCleanDisk (state S.Store store.log.conn)
         → (entries : List LogEntryValue) → HasOnlyRowsOf (state S.Store conn) entries
         → (count : ℕ) × IsReplay (take count entries) store.backend) }
+    // If SQLite counted these entries, the backend stores the objects of all of them, though rows
+    // were lost: then opening fails.
+    ensures counted { IfOk result (λ store. HasCleanDisk (state S.Store store.log.conn)
+        → (entries : List LogEntryValue) → CountsRowsOf (state S.Store conn) entries
+        → IsReplay entries store.backend) }
     ensures kept { IfOk result (λ store. (entries : List LogEntryValue)
         → WasNewOrContains S.Store conn entries
         → StoresEntries S.Store store.log.conn entries) }
@@ -85,6 +93,8 @@ pub fn open_store<S: Alter>(
         → HasCleanDisk (state S.Store conn)) }
     ensures error { IfErr result (λ e. HasCleanDisk (state S.Store e.1)
         → IsOpenError S.Store conn e.1 e.0) }
+    // A database of another program is not opened.
+    ensures own { OnOk result (¬ (IsForeign (state S.Store conn).now.schema)) }
 {
     let mut log = match SqliteLog::over(conn) {
         Ok(log) => log,

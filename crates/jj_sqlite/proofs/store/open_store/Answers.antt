@@ -17,6 +17,11 @@ returns-in-Ok-replay_log-clause-damaged g c =
     rw (c.beside.ensures.backend, c.beside.ensures.log) (λ clean entries has.
     c.in-Ok-replay_log.ensures.damaged clean entries (c.in-Ok.ensures.damaged (c.replay_log.ensures.clean clean) entries has))
 
+pub returns-in-Ok-replay_log-clause-counted : goal.returns-in-Ok-replay_log-clause-counted
+returns-in-Ok-replay_log-clause-counted g c =
+    rw (c.beside.ensures.backend, c.beside.ensures.log) (λ clean entries has.
+    c.in-Ok-replay_log.ensures.counted clean entries (c.in-Ok.ensures.counted (c.replay_log.ensures.clean clean) entries has))
+
 pub returns-in-Ok-replay_log-clause-kept : goal.returns-in-Ok-replay_log-clause-kept
 returns-in-Ok-replay_log-clause-kept g c =
     rw c.beside.ensures.log (λ entries had. c.in-Ok-replay_log.ensures.kept entries (c.in-Ok.ensures.entries entries had))
