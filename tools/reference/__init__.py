@@ -1,1 +1,2 @@
-"""The reference pages: `sources` reads code, `definitions` what its contracts cite, `project` what documents and tests say of it, `pages` writes it."""
+"""The reference pages: `definitions` reads what contracts cite, `project` what documents and tests
+say of an item, `pages` writes the site, and `check` looks for what it lacks."""

@@ -13,6 +13,14 @@ const load = (file) => scripts[file] ??= new Promise((done) => {
 const make = (tag, set) => Object.assign(document.createElement(tag), set)
 const key_of = (link) => decodeURIComponent(link.getAttribute('href').split('#')[1])
 
+// Pages and definitions name a definition by an attribute: w, one of the project, or k, one of the toolchain.
+function link_words(within) {
+  for (const a of within.querySelectorAll('a[w],a[k]')) {
+    a.href = 'words.html#' + (a.getAttribute('w') ?? a.getAttribute('k'))
+    a.className = a.hasAttribute('k') ? 'd k' : 'd'
+  }
+}
+
 async function box_of(key, link) {
   const crate = key.split('/')[0], ident = key.slice(crate.length + 1)
   await load(`d/${crate}.js`)
@@ -23,10 +31,7 @@ async function box_of(key, link) {
   box.querySelector('.note').innerHTML = doc
   box.querySelector('div').innerHTML = text
   box.querySelector('.where').textContent = place
-  for (const a of box.querySelectorAll('a[w],a[k]')) {
-    a.href = 'words.html#' + (a.getAttribute('w') ?? a.getAttribute('k'))
-    a.className = a.hasAttribute('k') ? 'd k' : 'd'
-  }
+  link_words(box)
   box.link = link
   return box
 }
@@ -109,5 +114,6 @@ document.addEventListener('keydown', (event) => {
 })
 by('query').addEventListener('focus', () => load('search.js').then(find))
 by('query').addEventListener('input', find)
+link_words(document)
 addEventListener('hashchange', show_word)
 show_word()
