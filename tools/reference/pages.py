@@ -278,10 +278,11 @@ class Site:
         """A document, with links from the names that it cites. In GUARANTEES these are looked up in
         the crate of their section."""
         def href(target):
-            there = (path.parent / target.partition("#")[0]).resolve()
+            file, mark, anchor = target.partition("#")
+            there = (path.parent / file).resolve()
             if there in DOCUMENTS:
-                return document_page(there)
-            return target if target.startswith("http") else "index.html"
+                return document_page(there) + mark + anchor
+            return "index.html" if file and there.exists() else target
 
         text, number, out = path.read_text(), 0, []
         if path != GUARANTEES:
