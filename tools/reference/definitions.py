@@ -76,6 +76,7 @@ class Definition:
     def texts(self):
         """Its context, and the text."""
         hidden = binders(self.text + "\n" + self.context) | {self.name}
+        hidden |= set(re.findall(r"(?m)^    (\w+)", self.text)) if self.kind == "enum" else set()
         mark = r"(?m)^(\s*)(?:(?:abbrev |unfoldable )?pub|abbrev|unfoldable) "
         lines = re.sub(mark, r"\1", self.text).split("\n")
         if len(lines) > MOST_LINES:

@@ -52,6 +52,10 @@ def summary(text):
     return inline(first_sentence(text))
 
 
+def plain(text):
+    return re.sub(r"[`\[\]]", "", first_sentence(text))
+
+
 def row_link(claim, said):
     return a(f"doc.GUARANTEES.html#row-{claim.number}", said)
 
@@ -116,7 +120,7 @@ class Site:
         for path in DOCUMENTS:
             self.add_page(document_page(path), path.stem, self.document(path))
             self.search.append([path.stem, "document", "docs", document_page(path),
-                                title_of(path).replace("`", "")])
+                                plain(title_of(path))])
         self.add_page("index.html", "jj-core reference", self.index())
         self.add_definitions()
         self.add_data("search.js", "define_names", self.search)
@@ -165,8 +169,7 @@ class Site:
 
     def item(self, item, module, link, inner=""):
         """The section of an item, with the sections of what belongs to it."""
-        summary_text = first_sentence(item.note).replace("`", "")
-        self.search.append([item.path(), item.kind, module.name(), link_to(item), summary_text])
+        self.search.append([item.path(), item.kind, module.name(), link_to(item), plain(item.note)])
         text = item.head if item.kind in ("trait", "fn") else item.signature()
         text = "" if item.kind == "ghost" else html.escape(re.sub(r"(?m)^    ", "", text.strip())
                                                            if item.parent else text.strip())
@@ -339,7 +342,7 @@ class Site:
             by_crate[it.crate][it.ident] = [inline(it.doc), it.parts[0], f"{it.kind} of {it.where}"]
             if it.is_ours and it.kind == "definition":
                 self.search.append([it.name, it.kind, it.where, f"words.html#{it.key}",
-                                    first_sentence(it.doc).replace("`", "")])
+                                    plain(it.doc)])
         for crate, found in by_crate.items():
             self.add_data(f"d/{crate}.js", "define", crate, found)
         rows = (f'{a(f"words.html#{crate}", f"<code>{crate}</code>")} {len(found)}'

@@ -68,10 +68,11 @@ async function toggle_all(button) {
 }
 
 function find() {
-  const asked = by('query').value.toLowerCase().split(/[\s:.]+/).filter(Boolean), last = asked.at(-1)
+  const asked = by('query').value.toLowerCase().split(/[\s:.]+/).filter(Boolean), last = asked.at(-1), whole = asked.join('_')
   const rank = ([name, kind]) => {
     const short = name.toLowerCase().split('::').pop()
-    return (short == last ? 0 : short.startsWith(last) ? 1 : short.includes(last) ? 2 : 3) + (kind == 'definition' ? 0.5 : 0)
+    const near = [short == last, short.startsWith(whole), short.startsWith(last), short.includes(last), true]
+    return near.indexOf(true) + (kind == 'definition' ? 0.5 : 0)
   }
   const matches = (it) => asked.every((word) => `${it[2]} ${it[0]} ${it[4]}`.toLowerCase().includes(word))
   const hits = asked.length ? names.filter(matches).sort((a, b) => rank(a) - rank(b)).slice(0, 30) : []
