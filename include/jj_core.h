@@ -173,6 +173,20 @@ int64_t jj_graph_heads(const size_t *targets, size_t targets_len, const size_t *
  * Ownership: reads targets, ends, set1, set2 and writes common during the call; frees all that it allocates. Threads: any, if no other uses common meanwhile. */
 int64_t jj_graph_common(const size_t *targets, size_t targets_len, const size_t *ends, size_t ends_len, const size_t *set1, size_t set1_len, const size_t *set2, size_t set2_len, size_t *common, size_t common_len);
 
+/* Many questions to one graph: it is read and checked once, which is most of the work of a single question. */
+
+/* Writes the heads of each set of nodes, joined, and the index at which those of each set end. `node_ends` divides `nodes` into the sets; at most
+ * as many heads are written as there are nodes, and as many ends as there are sets. Returns the number of heads.
+ * Errors: JJ_ENDS, JJ_NODE, JJ_CYCLE, JJ_LENGTH, JJ_MEMORY.
+ * Ownership: reads targets, ends, nodes, node_ends and writes heads, head_ends during the call; frees all that it allocates. Threads: any, if no other uses heads or head_ends meanwhile. */
+int64_t jj_graph_heads_each(const size_t *targets, size_t targets_len, const size_t *ends, size_t ends_len, const size_t *nodes, size_t nodes_len, const size_t *node_ends, size_t node_ends_len, size_t *heads, size_t heads_len, size_t *head_ends, size_t head_ends_len);
+
+/* Writes for each pair of sets the nodes that both reach and that no other such node reaches, joined, and the index at which those of each pair
+ * end. Both lists have as many sets. Returns the number of nodes written.
+ * Errors: JJ_ENDS (also if the numbers of sets differ), JJ_NODE, JJ_CYCLE, JJ_LENGTH, JJ_MEMORY.
+ * Ownership: reads targets, ends, set1, ends1, set2, ends2 and writes common, common_ends during the call; frees all that it allocates. Threads: any, if no other uses common or common_ends meanwhile. */
+int64_t jj_graph_common_each(const size_t *targets, size_t targets_len, const size_t *ends, size_t ends_len, const size_t *set1, size_t set1_len, const size_t *ends1, size_t ends1_len, const size_t *set2, size_t set2_len, const size_t *ends2, size_t ends2_len, size_t *common, size_t common_len, size_t *common_ends, size_t common_ends_len);
+
 #ifdef __cplusplus
 }
 #endif

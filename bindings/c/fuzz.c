@@ -468,8 +468,41 @@ static void graphs(void) {
     expect_items(found, count, expected, out, room);
 }
 
+/* Many questions to one graph: the results of the sets one after another. */
+static void graph_batches(void) {
+    enum { SETS = 6 };
+    static struct graph g;
+    size_t set1[8 * SETS], set2[8 * SETS], ends1[SETS], ends2[SETS], expected[64 * SETS], expected_ends[SETS];
+    size_t sets = draw(SETS), len1 = 0, len2 = 0, count = 0;
+    bool is_common = draw(2);
+    draw_graph(&g);
+    int64_t status = g.status, found;
+    for (size_t i = 0; i < sets; i++) {
+        uint64_t bits1, bits2 = 0;
+        len1 += draw_nodes(&g, set1 + len1, &status, &bits1);
+        if (is_common) len2 += draw_nodes(&g, set2 + len2, &status, &bits2);
+        uint64_t common = (bits1 | below_of(&g, bits1)) & (bits2 | below_of(&g, bits2));
+        ends1[i] = len1, ends2[i] = len2;
+        if (status == 0) count += ascending(is_common ? common & ~below_of(&g, common) : bits1 & ~below_of(&g, bits1), expected + count);
+        expected_ends[i] = count;
+    }
+    size_t room = draw(4) ? 64 * SETS : draw(20), end_room = draw(8) ? sets : draw(SETS), *out = take(room * sizeof *out), *out_ends = take(end_room * sizeof *out_ends);
+    size_t *targets = take(g.len * sizeof *targets), *ends = take(g.count * sizeof *ends);
+    memcpy(targets, g.targets, g.len * sizeof *targets);
+    memcpy(ends, g.ends, g.count * sizeof *ends);
+    call_name = is_common ? "graph_common_each" : "graph_heads_each";
+    if (is_common) found = jj_graph_common_each(targets, g.len, ends, g.count, set1, len1, ends1, sets, set2, len2, ends2, sets, out, room, out_ends, end_room);
+    else found = jj_graph_heads_each(targets, g.len, ends, g.count, set1, len1, ends1, sets, out, room, out_ends, end_room);
+    if (status < 0 || end_room < sets) {
+        if (status < 0 ? found != status && !(g.status == JJ_CYCLE && found == JJ_NODE) : found != JJ_LENGTH) fail("wrong status");
+        expect_kept(out, 0, room * sizeof *out);
+    } else expect_items(found, (int64_t)count, expected, out, room);
+    if (found < 0) expect_kept(out_ends, 0, end_room * sizeof *out_ends);
+    else if (memcmp(out_ends, expected_ends, sets * sizeof *out_ends)) fail("wrong ends");
+}
+
 int main(int argc, char **argv) {
-    static void (*const shapes[])(void) = {digests, hex, globs, filesets, walks, merges, flattening, graphs};
+    static void (*const shapes[])(void) = {digests, hex, globs, filesets, walks, merges, flattening, graphs, graph_batches};
     if (argc != 3) return fprintf(stderr, "usage: fuzz SEED CALLS\n"), 2;
     state = strtoull(argv[1], NULL, 10) * 0x9e3779b97f4a7c15u + 88172645463325252u;
     for (long left = atol(argv[2]); left > 0; left--) {

@@ -67,6 +67,23 @@ static void known_results(void) {
     EXPECT(jj_graph_heads((size_t[]){0}, 1, (size_t[]){1}, 1, nodes, 1, ITEMS(found)) == JJ_CYCLE);
 }
 
+/* Many questions to one graph. After an error both buffers are unchanged. */
+static void batches(void) {
+    static const size_t targets[] = {0, 0, 1, 2}, ends[] = {0, 1, 2, 4}, nodes[] = {1, 2, 3, 1, 0}, sets[] = {2, 2, 5}, one[] = {1, 2}, down[] = {2, 1};
+    size_t found[8] = {9, 9, 9, 9}, found_ends[4] = {9, 9, 9, 9};
+    EXPECT(jj_graph_heads_each(ITEMS(targets), ITEMS(ends), ITEMS(nodes), ITEMS(sets), found, 2, ITEMS(found_ends)) == JJ_LENGTH);
+    EXPECT(jj_graph_heads_each(ITEMS(targets), ITEMS(ends), ITEMS(nodes), ITEMS(sets), ITEMS(found), found_ends, 2) == JJ_LENGTH);
+    EXPECT(jj_graph_heads_each(ITEMS(targets), ITEMS(ends), ITEMS(nodes), ITEMS(down), ITEMS(found), ITEMS(found_ends)) == JJ_ENDS);
+    EXPECT(jj_graph_heads_each(ITEMS(targets), ends, 3, ITEMS(nodes), ITEMS(sets), ITEMS(found), ITEMS(found_ends)) == JJ_NODE);
+    EXPECT(jj_graph_heads_each((size_t[]){0}, 1, (size_t[]){1}, 1, nodes, 0, one, 0, ITEMS(found), ITEMS(found_ends)) == JJ_CYCLE);
+    EXPECT(jj_graph_common_each(ITEMS(targets), ITEMS(ends), nodes, 2, ITEMS(one), nodes, 1, one, 1, ITEMS(found), ITEMS(found_ends)) == JJ_ENDS);
+    for (int i = 0; i < 4; i++) EXPECT(found[i] == 9 && found_ends[i] == 9);
+    EXPECT(jj_graph_heads_each(ITEMS(targets), ITEMS(ends), ITEMS(nodes), ITEMS(sets), ITEMS(found), ITEMS(found_ends)) == 3);
+    EXPECT(found[0] == 1 && found[1] == 2 && found[2] == 3 && found[3] == 9 && found_ends[0] == 2 && found_ends[1] == 2 && found_ends[2] == 3);
+    EXPECT(jj_graph_common_each(ITEMS(targets), ITEMS(ends), nodes, 2, ITEMS(one), nodes + 1, 2, ITEMS(one), ITEMS(found), ITEMS(found_ends)) == 2);
+    EXPECT(found[0] == 0 && found[1] == 2 && found_ends[0] == 1 && found_ends[1] == 2 && found_ends[2] == 3);
+}
+
 /* A message cut at each index, and its content: the digest is that of the whole message, also of a copy and after more was appended. */
 static void digests_in_pieces(void) {
     enum { LEN = 300 };
@@ -101,7 +118,7 @@ static bool fails(void) { return fail_in > 0 && --fail_in == 0; }
 void *__wrap_malloc(size_t size) { return fails() ? NULL : __real_malloc(size); }
 void *__wrap_realloc(void *block, size_t size) { return fails() ? NULL : __real_realloc(block, size); }
 
-enum { ALLOCATING_CALLS = 12 };
+enum { ALLOCATING_CALLS = 14 };
 
 static int64_t call_with(int which, uint8_t *text, bool *matches, size_t *list) {
     static const size_t one[] = {1, 2, 3, 4, 5}, merges[] = {1, 4, 5}, ends[] = {0, 1, 2, 4}, targets[] = {0, 0, 1, 2}, nodes[] = {1, 2, 3}, paths[] = {1, 4, 9};
@@ -117,6 +134,8 @@ static int64_t call_with(int which, uint8_t *text, bool *matches, size_t *list) 
     case 8: return jj_fileset_matches(BYTES("(a | b*) ~ c"), BYTES("abdef"), ITEMS(one), matches, 8);
     case 9: return jj_walk(BYTES("abdef"), ITEMS(one), false, BYTES("aa/ba/b/c"), ITEMS(paths), matches, 8);
     case 10: return jj_walk(BYTES("ab"), ITEMS(((size_t[]){1, 2})), true, BYTES("aa/ba/b/c"), ITEMS(paths), matches, 8);
+    case 11: return jj_graph_heads_each(ITEMS(targets), ITEMS(ends), ITEMS(nodes), merges, 1, list, 4, list + 4, 4);
+    case 12: return jj_graph_common_each(ITEMS(targets), ITEMS(ends), nodes, 2, one, 2, nodes + 1, 2, one, 2, list, 4, list + 4, 4);
     default: return jj_graph_common(ITEMS(targets), ITEMS(ends), nodes, 2, nodes + 1, 2, list, 8);
     }
 }
@@ -273,6 +292,7 @@ int main(void) {
     pthread_t threads[THREADS];
     uint64_t sums[THREADS], alone;
     known_results();
+    batches();
     digests_in_pieces();
     failing_allocations();
     for (int i = 0; i < THREADS; i++) {

@@ -178,6 +178,23 @@ class Test(unittest.TestCase):
         self.raises("JJ_CYCLE", "graph[2] is on a cycle", jj_core.order, [[], [2, 0], [2]], [1])
         self.raises("JJ_NODE", "graph[0][0] is 1;", jj_core.heads, [[1]], [0])
 
+    def test_many_questions(self):
+        numbers = random.Random(3)
+        graph = [sorted({numbers.randrange(node) for _ in range(min(node, 2))}) for node in range(200)]
+        sets = [[numbers.randrange(200) for _ in range(numbers.randrange(5))] for _ in range(300)]
+        pairs = [(sets[it], sets[-it]) for it in range(300)]
+        self.assertEqual(jj_core.heads_each(graph, sets), [jj_core.heads(graph, it) for it in sets])
+        self.assertEqual(jj_core.closest_common_each(graph, pairs), [jj_core.closest_common(graph, *it) for it in pairs])
+        many = [([*range(100, 200)], [*range(100, 200)])] * 40
+        wide = [[] for _ in range(200)]
+        self.assertEqual(jj_core.closest_common_each(wide, many), [[*range(100, 200)]] * 40)
+        self.assertEqual(jj_core.heads_each([], []), [])
+        self.raises("JJ_CYCLE", "on a cycle", jj_core.heads_each, [[1], [0]], [])
+        self.raises("JJ_NODE", "sets[1][0] is 3;", jj_core.heads_each, [[]], [[0], [3]])
+        self.raises("JJ_NODE", "pairs[0][1][0] is 3;", jj_core.closest_common_each, [[]], [([0], [3])])
+        self.raises("JJ_ENDS", "pairs[0] has 1 sets", jj_core.closest_common_each, [[]], [[[0]]])
+        self.refuses("sets[0] must be a list of nodes, not int", jj_core.heads_each, [[]], [0])
+
     def test_threads(self):
         found = [None] * 4
 

@@ -40,8 +40,8 @@ from ._errors import JjError, JjMemoryError, JjValueError, cycle_fault, error, h
 from ._library import LIBRARY, STATUSES, JjHasher
 
 __all__ = [
-    "DIGEST_LENGTH", "BytesLike", "Hasher", "JjError", "JjMemoryError", "JjValueError", "closest_common", "content_hash", "content_hash_list",
-    "fileset_matches", "flatten", "glob_matches", "hash", "heads", "hex_decode", "hex_encode", "hex_prefix_matches", "order", "resolve",
+    "DIGEST_LENGTH", "BytesLike", "Hasher", "JjError", "JjMemoryError", "JjValueError", "closest_common", "closest_common_each", "content_hash",
+    "content_hash_list", "fileset_matches", "flatten", "glob_matches", "hash", "heads", "heads_each", "hex_decode", "hex_encode", "hex_prefix_matches", "order", "resolve",
     "simplify", "walk",
 ]
 
@@ -290,3 +290,47 @@ def closest_common(graph: Iterable[Iterable[int]], set1: Iterable[int], set2: It
     """
     known = to_graph(graph)
     return _nodes_of("jj_graph_common", known, to_nodes(set1, len(known), "set1"), to_nodes(set2, len(known), "set2"))
+
+
+def _lists_of(name: str, room: int, count: int, *arguments: Any) -> tuple[int, list[list[int]]]:
+    # Calls with buffers for so many items and so many ends. Returns the status, and the lists that were written.
+    items, ends = (c_size_t * max(room, 1))(), (c_size_t * max(count, 1))()
+    status = getattr(LIBRARY, name)(*arguments, items, room, ends, count)
+    return status, [items[start:end] for start, end in zip([0, *ends], ends[:count])] if status >= 0 else []
+
+
+def heads_each(graph: Iterable[Iterable[int]], sets: Iterable[Iterable[int]]) -> list[list[int]]:
+    """The heads of each set of nodes, as by `heads`. The graph is checked once, which is most of the work of one question.
+
+    >>> heads_each([[], [0], [0]], [[0, 1], [1, 2]])
+    [[1], [1, 2]]
+    """
+    known = to_graph(graph)
+    asked = [to_nodes(it, len(known), f"sets[{index}]") for index, it in enumerate(to_list(sets, "sets", "lists of nodes"))]
+    status, found = _lists_of("jj_graph_heads_each", sum(map(len, asked)), len(asked), *lists(known), *lists(asked))
+    if status < 0:
+        raise error(status, cycle_fault(known))
+    return found
+
+
+def closest_common_each(graph: Iterable[Iterable[int]], pairs: Iterable[tuple[Iterable[int], Iterable[int]]]) -> list[list[int]]:
+    """The closest common nodes of each pair of sets, as by `closest_common`. The graph is checked once.
+
+    >>> closest_common_each([[], [0], [0]], [([1], [2]), ([1], [1])])
+    [[0], [1]]
+    """
+    known, asked = to_graph(graph), [to_list(it, f"pairs[{index}]", "two sets") for index, it in enumerate(to_list(pairs, "pairs", "pairs"))]
+    for index, it in enumerate(asked):
+        if len(it) != 2:
+            raise JjValueError(-2, f"pairs[{index}] has {len(it)} sets, and a pair has two")
+    sides = [[to_nodes(it[side], len(known), f"pairs[{index}][{side}]") for index, it in enumerate(asked)] for side in (0, 1)]
+    room = len(known) + len(asked)
+    # How many nodes are common is not known before.
+    while True:
+        status, found = _lists_of("jj_graph_common_each", room, len(asked), *lists(known), *lists(sides[0]), *lists(sides[1]))
+        if STATUSES.get(status) != "JJ_LENGTH":
+            break
+        room *= 4
+    if status < 0:
+        raise error(status, cycle_fault(known))
+    return found

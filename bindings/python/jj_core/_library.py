@@ -40,6 +40,13 @@ SIGNATURES = {
     "jj_graph_order": [INDICES, c_size_t, INDICES, c_size_t, INDICES, c_size_t, INDICES, c_size_t],
     "jj_graph_heads": [INDICES, c_size_t, INDICES, c_size_t, INDICES, c_size_t, INDICES, c_size_t],
     "jj_graph_common": [INDICES, c_size_t, INDICES, c_size_t, INDICES, c_size_t, INDICES, c_size_t, INDICES, c_size_t],
+    "jj_graph_heads_each": [
+        INDICES, c_size_t, INDICES, c_size_t, INDICES, c_size_t, INDICES, c_size_t, INDICES, c_size_t, INDICES, c_size_t,
+    ],
+    "jj_graph_common_each": [
+        INDICES, c_size_t, INDICES, c_size_t, INDICES, c_size_t, INDICES, c_size_t, INDICES, c_size_t, INDICES, c_size_t, INDICES, c_size_t,
+        INDICES, c_size_t,
+    ],
 }
 
 RETURN_NOTHING = {"jj_hasher_start", "jj_hasher_update"}

@@ -52,4 +52,13 @@ extern "C" {
         targets: *const usize, targets_len: usize, ends: *const usize, ends_len: usize, set1: *const usize, set1_len: usize,
         set2: *const usize, set2_len: usize, common: *mut usize, common_len: usize,
     ) -> i64;
+    pub fn jj_graph_heads_each(
+        targets: *const usize, targets_len: usize, ends: *const usize, ends_len: usize, nodes: *const usize, nodes_len: usize,
+        node_ends: *const usize, node_ends_len: usize, heads: *mut usize, heads_len: usize, head_ends: *mut usize, head_ends_len: usize,
+    ) -> i64;
+    pub fn jj_graph_common_each(
+        targets: *const usize, targets_len: usize, ends: *const usize, ends_len: usize, set1: *const usize, set1_len: usize,
+        ends1: *const usize, ends1_len: usize, set2: *const usize, set2_len: usize, ends2: *const usize, ends2_len: usize,
+        common: *mut usize, common_len: usize, common_ends: *mut usize, common_ends_len: usize,
+    ) -> i64;
 }

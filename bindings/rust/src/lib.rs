@@ -371,3 +371,60 @@ pub fn closest_common(graph: &Graph, set1: &[usize], set2: &[usize]) -> Result<V
         )
     })
 }
+
+/// The heads of each set of nodes, as by [`heads`]. The graph is checked once, which is most of the work of one question.
+///
+/// ```
+/// use jj_core_verified::{heads_each, Graph};
+/// let parents = Graph::new(&[vec![], vec![0], vec![0]]);
+/// assert_eq!(heads_each(&parents, &[vec![0, 1], vec![1, 2]])?, [vec![1], vec![1, 2]]);
+/// # Ok::<(), jj_core_verified::Error>(())
+/// ```
+pub fn heads_each<T: AsRef<[usize]>>(graph: &Graph, sets: &[T]) -> Result<Vec<Vec<usize>>, Error> {
+    let joined = Graph::new(sets);
+    lists_filled(joined.targets.len(), sets.len(), |kind| graph.error(kind, &[&joined.targets]), |out, len, ends, ends_len| unsafe {
+        ffi::jj_graph_heads_each(
+            graph.targets.as_ptr(), graph.targets.len(), graph.ends.as_ptr(), graph.ends.len(), joined.targets.as_ptr(),
+            joined.targets.len(), joined.ends.as_ptr(), joined.ends.len(), out, len, ends, ends_len,
+        )
+    })
+}
+
+/// The closest common nodes of each pair of sets, as by [`closest_common`]. The graph is checked once.
+///
+/// ```
+/// use jj_core_verified::{closest_common_each, Graph};
+/// let parents = Graph::new(&[vec![], vec![0], vec![0]]);
+/// assert_eq!(closest_common_each(&parents, &[([1], [2]), ([1], [1])])?, [vec![0], vec![1]]);
+/// # Ok::<(), jj_core_verified::Error>(())
+/// ```
+pub fn closest_common_each<T: AsRef<[usize]>, U: AsRef<[usize]>>(graph: &Graph, pairs: &[(T, U)]) -> Result<Vec<Vec<usize>>, Error> {
+    let set1: Graph = pairs.iter().map(|(set, _)| set).collect();
+    let set2: Graph = pairs.iter().map(|(_, set)| set).collect();
+    let explain = |kind| graph.error(kind, &[&set1.targets, &set2.targets]);
+    let mut room = graph.len() + pairs.len();
+    // How many nodes are common is not known before.
+    loop {
+        let found = lists_filled(room, pairs.len(), explain, |out, len, ends, ends_len| unsafe {
+            ffi::jj_graph_common_each(
+                graph.targets.as_ptr(), graph.targets.len(), graph.ends.as_ptr(), graph.ends.len(), set1.targets.as_ptr(),
+                set1.targets.len(), set1.ends.as_ptr(), set1.ends.len(), set2.targets.as_ptr(), set2.targets.len(), set2.ends.as_ptr(),
+                set2.ends.len(), out, len, ends, ends_len,
+            )
+        });
+        match found {
+            Err(error) if error.kind() == ErrorKind::Length => room *= 4,
+            found => return found,
+        }
+    }
+}
+
+// Calls with buffers for so many items and so many ends, and returns the lists that were written.
+fn lists_filled(
+    room: usize, count: usize, explain: impl Fn(ErrorKind) -> Error, call: impl Fn(*mut usize, usize, *mut usize, usize) -> i64,
+) -> Result<Vec<Vec<usize>>, Error> {
+    let (mut items, mut ends) = (vec![0; room], vec![0; count]);
+    number(call(items.as_mut_ptr(), room, ends.as_mut_ptr(), count), explain)?;
+    let starts = std::iter::once(&0).chain(&ends);
+    Ok(starts.zip(&ends).map(|(start, end)| items[*start..*end].to_vec()).collect())
+}

@@ -5,3 +5,4 @@ mod ResolvedTerms
 mod Flags
 mod TreeWalks
 mod GraphResults
+mod JoinedResults

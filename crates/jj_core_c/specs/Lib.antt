@@ -12,3 +12,4 @@ pub mod FilesetResults
 pub mod GlobResults
 pub mod TreeWalks
 pub mod ArrayGraphs
+pub mod GraphBatches

@@ -16,7 +16,11 @@ use jj_dag::walk_error::WalkError;
 use std::alloc::Global;
 
 // Checks the arrays of a graph, and that it is acyclic.
-fn acyclic_graph(alloc: Global, targets: &[usize], ends: &[usize]) -> Result<ArrayGraph, Error>
+pub(crate) fn acyclic_graph(
+    alloc: Global,
+    targets: &[usize],
+    ends: &[usize],
+) -> Result<ArrayGraph, Error>
     ensures { MatchResult result
         (λ graph. (graph ≡ pieces_of targets.now ends.now)
         × (¬ (HasCycle (graph_of targets.now ends.now))) × AreArrays targets.now ends.now)

@@ -1,6 +1,6 @@
 use Rattle.std.proofs.Common.{rules, ◌≡◌, ◌∙◌, ◌++◌, ◌∷◌, [], ℕ, List, ap, arith, sym}
 use Rattle.std.proofs.lemmas.List.{take_all}
-use Rattle.jj_dag.specs.PackedLists.{lists_of, open_list_of}
+use Rattle.jj_dag.specs.PackedLists.{lists_of}
 use Rattle.jj_core_c.specs.Pieces.{pieces_of}
 use Rattle.jj_core_c.proofs.PieceLists.{length_pieces, take_next}
 use Rattle.jj_core_c.proofs.array_graph.graph_of.Goals as goal

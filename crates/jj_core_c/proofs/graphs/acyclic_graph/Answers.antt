@@ -1,4 +1,4 @@
-use Rattle.std.proofs.Common.{◌≡◌, ℕ, List, [], false, get_or, length, rules, subst, true}
+use Rattle.std.proofs.Common.{◌≡◌, ℕ, List, [], false, get_or, rules, subst, true}
 use Rattle.std.specs.Bool.{MatchBool}
 use Rattle.jj_dag.specs.ArrayGraphs.{HasCycle}
 use Rattle.jj_core_c.specs.ArrayGraphs.{AreArrays, graph_of}
