@@ -2,8 +2,8 @@
  * jj_core.h: the C interface of the library jj_core_c.
  *
  * Memory. Every pointer comes from the caller and is followed by the number of items that it points to. It is read or written during the
- * call only; the library keeps no pointer, returns no memory to free, and has no global state. A pointer must not be NULL, also where the
- * number is 0, and must be aligned for its type. A buffer for results, or a hasher, must not overlap any other argument. `const` arguments
+ * call only; the library keeps no pointer, returns no memory to free, and has no global state. Where the number is 0, a pointer may be NULL;
+ * else it must be aligned for its type. A buffer for results, or a hasher, must not overlap any other argument. `const` arguments
  * are only read.
  *
  * Results. A call returns nothing, or a number of 0 or more, or a negative status. Results are written to the first items of the buffer; the other items,

@@ -84,6 +84,35 @@ static void batches(void) {
     EXPECT(found[0] == 0 && found[1] == 2 && found_ends[0] == 1 && found_ends[1] == 2 && found_ends[2] == 3);
 }
 
+/* NULL is an empty list, at each parameter. */
+static void no_items(void) {
+    static const size_t one[] = {0};
+    uint8_t digest[64];
+    size_t list[1];
+    bool flags[1];
+    jj_hasher hasher;
+    EXPECT(jj_hash(NULL, 0, digest, 64) == 64 && jj_hash(NULL, 0, NULL, 0) == JJ_LENGTH);
+    EXPECT(jj_content_hash(NULL, 0, digest, 64) == 64 && jj_content_hash_list(NULL, 0, NULL, 0, digest, 64) == 64);
+    EXPECT(jj_content_hash_list(NULL, 0, one, 1, digest, 64) == 64);
+    jj_hasher_start(&hasher);
+    jj_hasher_update(&hasher, NULL, 0);
+    EXPECT(jj_hasher_finish(&hasher, NULL, 0) == JJ_LENGTH && jj_hasher_finish(&hasher, digest, 64) == 64);
+    EXPECT(jj_hex_encode(NULL, 0, false, NULL, 0) == 0 && jj_hex_decode(NULL, 0, true, NULL, 0) == 0);
+    EXPECT(jj_hex_prefix_matches(NULL, 0, false, NULL, 0) == 1);
+    EXPECT(jj_glob_matches(NULL, 0, false, false, NULL, 0, NULL, 0, NULL, 0) == 0);
+    EXPECT(jj_glob_matches(NULL, 0, false, false, NULL, 0, one, 1, flags, 1) == 1 && flags[0]);
+    EXPECT(jj_fileset_matches(NULL, 0, NULL, 0, NULL, 0, NULL, 0) == JJ_EXPRESSION);
+    EXPECT(jj_fileset_matches(BYTES("a"), NULL, 0, NULL, 0, NULL, 0) == 0);
+    EXPECT(jj_fileset_matches(BYTES("a"), NULL, 0, one, 1, flags, 1) == 1 && !flags[0]);
+    EXPECT(jj_walk(NULL, 0, NULL, 0, true, NULL, 0, NULL, 0, NULL, 0) == 0);
+    EXPECT(jj_merge_simplify(NULL, 0, NULL, 0, NULL, 0) == JJ_TERMS && jj_merge_simplify(NULL, 0, one, 1, list, 1) == 1);
+    EXPECT(jj_merge_resolve(NULL, 0, one, 1, false) == 0 && jj_merge_flatten(NULL, 0, NULL, 0) == JJ_TERMS);
+    EXPECT(jj_graph_order(NULL, 0, NULL, 0, NULL, 0, NULL, 0) == 0 && jj_graph_heads(NULL, 0, one, 1, NULL, 0, NULL, 0) == 0);
+    EXPECT(jj_graph_common(NULL, 0, NULL, 0, NULL, 0, NULL, 0, NULL, 0) == 0);
+    EXPECT(jj_graph_heads_each(NULL, 0, NULL, 0, NULL, 0, NULL, 0, NULL, 0, NULL, 0) == 0);
+    EXPECT(jj_graph_common_each(NULL, 0, NULL, 0, NULL, 0, NULL, 0, NULL, 0, NULL, 0, NULL, 0, NULL, 0) == 0);
+}
+
 /* A message cut at each index, and its content: the digest is that of the whole message, also of a copy and after more was appended. */
 static void digests_in_pieces(void) {
     enum { LEN = 300 };
@@ -293,6 +322,7 @@ int main(void) {
     uint64_t sums[THREADS], alone;
     known_results();
     batches();
+    no_items();
     digests_in_pieces();
     failing_allocations();
     for (int i = 0; i < THREADS; i++) {
