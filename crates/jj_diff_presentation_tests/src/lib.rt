@@ -1,4 +1,6 @@
-//! Proved callers of jj_diff_presentation.
+//! Proved callers of jj_diff_presentation, and tests.
 #![tactic(auto)]
 
+#[cfg(test)]
+mod apply_tests;
 pub mod callers;

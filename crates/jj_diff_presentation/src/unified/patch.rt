@@ -7,6 +7,8 @@ ghost use Rattle.jj_diff_presentation.specs.Views.{header_view, state_view, IsBo
 use super::header::{HunkHeader, parse_header};
 use crate::lines::split_first_line;
 use std::alloc::{AllocError, Global};
+use std::error::Error;
+use std::fmt;
 
 /// The content that a patch has to have at a line.
 #[derive(Copy, Clone, Debug, PartialEq, Eq, Drop)]
@@ -39,6 +41,45 @@ pub enum ApplyError {
     Memory(AllocError),
     Fault(PatchFault),
 }
+
+impl ExpectedInPatch {
+    /// Returns what was expected, in words.
+    pub fn as_str(self) -> &'static str {
+        match self {
+            ExpectedInPatch::LeftName => "`--- ` and the name of the old version",
+            ExpectedInPatch::RightName => "`+++ ` and the name of the new version",
+            ExpectedInPatch::HunkHeader => "a hunk's header `@@ -START,COUNT +START,COUNT @@`",
+            ExpectedInPatch::LaterHunk => {
+                "a hunk of lines that the file has, after those of the hunk before"
+            }
+            ExpectedInPatch::HunkLine => {
+                "a line that begins with ` `, `-` or `+`, of the numbers in the hunk's header"
+            }
+            ExpectedInPatch::LeftLine => "the next line of the file after ` ` or `-`",
+        }
+    }
+}
+
+impl fmt::Display for PatchFault {
+    fn fmt<W: fmt::Write>(&self, f: &mut fmt::Formatter<W>) -> fmt::Result {
+        let line = self.line;
+        let expected = self.expected.as_str();
+        write!(f, "line {line} of the patch: expected {expected}")
+    }
+}
+
+impl Error for PatchFault {}
+
+impl fmt::Display for ApplyError {
+    fn fmt<W: fmt::Write>(&self, f: &mut fmt::Formatter<W>) -> fmt::Result {
+        match self {
+            ApplyError::Memory(_) => f.write_str("out of memory"),
+            ApplyError::Fault(fault) => fault.fmt(f),
+        }
+    }
+}
+
+impl Error for ApplyError {}
 
 #[derive(Copy, Clone, Debug, PartialEq, Eq, Drop)]
 enum PatchPart {
