@@ -1,4 +1,4 @@
--- Tokens that stand once in each part of a row.
+-- Tokens that occur once in each part of a row.
 use Rattle.std.proofs.Common.{◌≡◌, ℕ, suc, zero, ◌+◌, ◌<◌, ◌≤◌, List, [], ◌∷◌, ◌++◌, length, filter, get_or, Bor, refl, ap, sym, ◌∙◌, subst, arith, below_more, Bool, true, false, cond, inl, inr}
 use Rattle.std.proofs.lemmas.Bool.{cases_lt}
 use Rattle.std.proofs.lemmas.Grind.{common_steps, elements}
@@ -216,7 +216,7 @@ ranges_more row offsets token starts ends starts' ends' start end n k e f starts
       ap (λ xs. get_or xs n 0) f ∙ number_here ends end n ends_len ∙ b,
     )
 
--- the ranges of a token that stands once in each part
+-- the ranges of a token that occurs once in each part
 pub anchor_ranges : (t : Tokenizer) (row offsets : List (List ℕ)) (token starts ends : List ℕ) → 0 < length row
     → AreTokenOffsets t row offsets → AreTokenRanges row offsets token starts ends → IsAnchor t row starts ends
 anchor_ranges t row offsets token starts ends some tokens found =
@@ -247,7 +247,7 @@ anchor_ranges t row offsets token starts ends some tokens found =
       equal = λ i lt. part i lt ∙ sym (part 0 some);
     }
 
--- a common token stands once between the offsets of each part
+-- a common token is once between the offsets of each part
 common_each : (t : Tokenizer) (row offsets : List (List ℕ)) (token : List ℕ) → AreTokenOffsets t row offsets
     → IsCommonToken t row token → StandsOnceInEach row offsets token
 common_each t row offsets token tokens common i lt =
@@ -258,7 +258,7 @@ no_few t row offsets tokens many few = many (λ i lt.
     let mt : i < length row = omega (arith, tokens.len) in
     omega (arith, few i mt, ap length (tokens.each i mt)))
 
--- no token of the first part stands once in each
+-- no token of the first part occurs once in each
 no_token : (t : Tokenizer) (row offsets : List (List ℕ)) → AreTokenOffsets t row offsets
     → ((k : ℕ) → k + 1 < length (get_or offsets 0 [])
     → ¬ (StandsOnceInEach row offsets (token_at (get_or row 0 []) (get_or offsets 0 []) k)))
@@ -268,7 +268,7 @@ no_token t row offsets tokens absent token common =
     let first : StandsOnceAmong (get_or row 0 []) (get_or offsets 0 []) token = each 0 common.some in
     absent first.0 first.1.0 (subst (StandsOnceInEach row offsets) (sym first.1.1) each)
 
--- no token of the first part, as it was read, stands once in each
+-- no token of the first part, as it was read, occurs once in each
 pub no_token_read : (t : Tokenizer) (refs : List (Bor (List ℕ))) (vs : List (Vec ℕ Global)) (xs : List ℕ)
     → AreTokenOffsets t (bytes_of refs) (lists_of vs) → xs ≡ get_or (lists_of vs) 0 []
     → ((k : ℕ) → k + 1 < length xs → ¬ (StandsOnceInEach (bytes_of refs) (lists_of vs) (token_at (get_or refs 0 none).now xs k)))

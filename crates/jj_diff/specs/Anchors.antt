@@ -1,4 +1,4 @@
--- Tokens that stand once in each part of a row.
+-- Tokens that occur once in each part of a row.
 -- Cited by contracts of public items: HasFewTokens, IsCommonToken.
 use Rattle.std.specs.Prelude.{◌≡◌, ℕ, ◌+◌, ◌<◌, ◌≤◌, List, [], ◌∷◌, length, filter, map, slice_index}
 use Rattle.std.specs.List.{range_with_len, slice_index_or, slice_range}
@@ -10,22 +10,23 @@ use Rattle.jj_diff.specs.Inputs.{AreRanges}
 
 -- the offsets between tokens: 0 and the end of each
 abbrev pub token_offsets : Tokenizer → List ℕ → List ℕ
-token_offsets tokenizer text = 0 ∷ filter (is_token_end tokenizer text) (range_with_len 1 (length text))
+token_offsets tokenizer text =
+    0 ∷ filter (is_token_end tokenizer text) (range_with_len 1 (length text))
 
 -- the token from offset k to the next
 abbrev pub token_at : List ℕ → List ℕ → ℕ → List ℕ
 token_at text offsets k = slice_range text (slice_index offsets k) (slice_index offsets (k + 1))
 
--- the token stands between offset k and the next
+-- the token is between offset k and the next
 abbrev pub StandsAt : List ℕ → List ℕ → List ℕ → ℕ → Type 0
 StandsAt text offsets token k = (k + 1 < length offsets) × (token_at text offsets k ≡ token)
 
--- the token stands between these offsets once
+-- the token is between two of these offsets, and between no others
 abbrev pub StandsOnceAmong : List ℕ → List ℕ → List ℕ → Type 0
 StandsOnceAmong text offsets token = (k : ℕ) × StandsAt text offsets token k
     × ((j : ℕ) → StandsAt text offsets token j → j ≡ k)
 
--- the text has the token once
+-- the byte string has the token once
 abbrev pub StandsOnce : Tokenizer → List ℕ → List ℕ → Type 0
 StandsOnce tokenizer text = StandsOnceAmong text (token_offsets tokenizer text)
 
@@ -46,7 +47,7 @@ pub record IsCommonToken (tokenizer : Tokenizer) (row : List (List ℕ)) (token 
 abbrev pub lists_of : List (Vec ℕ Global) → List (List ℕ)
 lists_of = map (λ v. v.items)
 
--- offsets that increase within the text, at least one
+-- offsets that increase within the byte string, at least one
 pub record AreOffsets (text offsets : List ℕ) : Type 0 where
   pub some : 0 < length offsets
   pub ordered : (k : ℕ) → k + 1 < length offsets
@@ -69,19 +70,19 @@ pub record AreTokenOffsets (tokenizer : Tokenizer) (row offsets : List (List ℕ
 abbrev pub AreFew : List (List ℕ) → Type 0
 AreFew offsets = (i : ℕ) → i < length offsets → length (slice_index_or offsets i []) ≤ 65
 
--- the token stands once in each part
+-- the token occurs once in each part
 abbrev pub StandsOnceInEach : List (List ℕ) → List (List ℕ) → List ℕ → Type 0
 StandsOnceInEach row offsets token = (i : ℕ) → i < length row
     → StandsOnceAmong (slice_index_or row i []) (slice_index_or offsets i []) token
 
--- from `starts` to `ends` the token stands in part i
+-- from `starts` to `ends` the token is in part i
 abbrev pub IsTokenRange : List (List ℕ) → List (List ℕ) → List ℕ → List ℕ → List ℕ → ℕ → Type 0
 IsTokenRange row offsets token starts ends i = (k : ℕ)
     × StandsAt (slice_index_or row i []) (slice_index_or offsets i []) token k
     × (slice_index starts i ≡ slice_index (slice_index_or offsets i []) k)
     × (slice_index ends i ≡ slice_index (slice_index_or offsets i []) (k + 1))
 
--- from `starts` to `ends` the token stands in each part
+-- from `starts` to `ends` the token is in each part
 pub record AreTokenRanges (row offsets : List (List ℕ)) (token starts ends : List ℕ)
     : Type 0 where
   pub starts_len : length starts ≡ length row

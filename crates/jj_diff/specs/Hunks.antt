@@ -63,14 +63,14 @@ pub record HasTrimmedEnds (tokenizer : Tokenizer) (row : List (List ℕ)) : Type
   pub end : (n : ℕ) → IsCommonEnd tokenizer row 0 n → n ≡ 0
 
 -- The parts of the row do not all start with the same tokens, nor all end with the same tokens. If
--- each part has at most 64 tokens, then no token stands exactly once in each.
+-- each part has at most 64 tokens, then no token occurs exactly once in each.
 pub record IsTrimmed (tokenizer : Tokenizer) (row : List (List ℕ)) : Type 0 where
   pub start : (n : ℕ) → IsCommonStart tokenizer row n → n ≡ 0
   pub end : (n : ℕ) → IsCommonEnd tokenizer row 0 n → n ≡ 0
   pub once : HasFewTokens tokenizer row → (token : List ℕ) → ¬ (IsCommonToken tokenizer row token)
 
 -- No hunk that differs starts with a token that is equal in all inputs, nor ends with one, nor has
--- one that stands exactly once in each part, if the parts have at most 64 tokens.
+-- one that occurs exactly once in each part, if the parts have at most 64 tokens.
 abbrev pub AreTrimmed : Tokenizer → List DiffHunk → Type 0
 AreTrimmed tokenizer = All (λ hunk. hunk.kind ≡ Different → IsTrimmed tokenizer (row_of hunk))
 

@@ -61,7 +61,10 @@ fn regions_that_no_search_found(rt: HostRuntime) -> Result<(), Fail> {
     let inputs = [b"a\nb\nc\nd\n".as_slice(), b"x\nb\ny\nd\nz\n".as_slice()];
     let hunks = hunks_of_regions(alloc, Tokenizer::Lines, &inputs, &[])?;
     let text = write_hunks(alloc, &hunks)?;
-    assert_eq!(rt; text.as_slice(), b"<a\n>x\n=b\n<c\n>y\n=d\n<>z\n".as_slice());
+    assert_eq!(rt;
+        text.as_slice(),
+        b"<a\n>x\n=b\n<c\n>y\n=d\n<>z\n".as_slice()
+    );
     Ok(())
 }
 

@@ -1,4 +1,4 @@
-//! Anchors: tokens that stand once in each part of a row. Rows of many tokens are not searched,
+//! Anchors: tokens that occur once in each part of a row. Rows of many tokens are not searched,
 //! since the search compares each token with each other one.
 ghost use Rattle.std.specs.Prelude.{◌≡◌, ℕ, ◌+◌, ◌<◌, ◌≤◌, List, [], None, length, IfOk, IfSome, IsTrue, IsFalse};
 ghost use Rattle.std.specs.List.{slice_index_or};
@@ -49,7 +49,7 @@ fn token_at<'a>(text: &'a [u8], offsets: &[usize], index: usize) -> &'a [u8]
     &text[offsets[index]..offsets[index + 1]]
 }
 
-// Returns the first index from `start` on where the token stands, or the number of tokens.
+// Returns the index of the first occurrence from index `start` on, or the number of tokens.
 fn first_index(text: &[u8], offsets: &[usize], token: &[u8], start: usize) -> usize
     requires offsets { AreOffsets text.now offsets.now }
     requires start { start < length offsets.now }
@@ -82,7 +82,7 @@ fn stands_once(text: &[u8], offsets: &[usize], token: &[u8]) -> bool
     second + 1 == offsets.len()
 }
 
-// Whether the token stands once in each part.
+// Whether the token occurs once in each part.
 fn stands_once_in_each(row: &[&[u8]], offsets: &[Vec<usize>], token: &[u8]) -> bool
     requires { AreRowOffsets (bytes_of row.now) (lists_of offsets.now) }
     ensures once { IsTrue result
@@ -111,7 +111,7 @@ fn are_few(offsets: &[Vec<usize>]) -> bool
     true
 }
 
-// Returns the index, in the first part, of the first token that stands once in each part, or the
+// Returns the index, in the first part, of the first token that occurs once in each part, or the
 // number of tokens.
 fn find_token(row: &[&[u8]], offsets: &[Vec<usize>], first: &[u8], first_offsets: &[usize]) -> usize
     requires row { AreRowOffsets (bytes_of row.now) (lists_of offsets.now) }
@@ -133,7 +133,7 @@ fn find_token(row: &[&[u8]], offsets: &[Vec<usize>], first: &[u8], first_offsets
     first_offsets.len() - 1
 }
 
-// Returns the index where a token stands that stands once.
+// Returns the index of a token that occurs once.
 #[tactic(auto, using(crate::proofs::Anchors::once_found))]
 fn index_of(text: &[u8], offsets: &[usize], token: &[u8]) -> usize
     requires offsets { AreOffsets text.now offsets.now }
@@ -144,7 +144,7 @@ fn index_of(text: &[u8], offsets: &[usize], token: &[u8]) -> usize
     first_index(text, offsets, token, 0)
 }
 
-// Returns where the token stands in each part.
+// Returns where the token is in each part.
 fn token_ranges(
     alloc: Global,
     row: &[&[u8]],
@@ -176,7 +176,7 @@ fn offsets_of(offsets: &[Vec<usize>], index: usize) -> &[usize]
     offsets[index].as_slice()
 }
 
-// Returns where a token stands that each part has once, if there is one.
+// Returns where a token is that each part has once, if there is one.
 fn find_token_ranges(
     alloc: Global,
     tokenizer: Tokenizer,
@@ -200,7 +200,7 @@ fn find_token_ranges(
     Ok(Some(region))
 }
 
-// Returns where a token stands that each part of the row has once, if there is one and the parts
+// Returns where a token is that each part of the row has once, if there is one and the parts
 // have few tokens.
 #[tactic(auto, using(crate::proofs::Anchors::no_few))]
 pub(super) fn find_anchor(

@@ -173,8 +173,8 @@ impl<'a> ContentDiff<'a> {
         Ok(())
     }
 
-    /// Returns where each hunk is in input number `input`. The hunks have to be those of the inputs,
-    /// as after each function that returns or refines a comparison.
+    /// Returns where each hunk is in input number `input`. The hunks have to be those of the
+    /// inputs, as after each function that returns or refines a comparison.
     pub fn hunk_ranges(&self, alloc: Global, input: usize) -> Result<Vec<Range<usize>>, AllocError>
         requires { side input (map row_of self.now.hunks.items)
             ≡ slice_index_or (bytes_of self.now.inputs.items) input [] }

@@ -265,9 +265,9 @@ fn region_hunks<'a, C: CompareBytes>(
 /// Returns the hunks of the inputs whose matching ones are the tokens that all inputs start with,
 /// the regions, in order, and the tokens that all inputs end with, each as far as the tokens before
 /// and after it are equal in all inputs. Of a region that overlaps what matches before it or the
-/// last one only the rest counts. Ignores a region that is empty, is not equal in all inputs or cuts
-/// a token. Inputs that are equal under the comparison are one matching hunk, or none if they are
-/// empty.
+/// last one only the rest counts. Ignores a region that is empty, is not equal in all inputs or
+/// cuts a token. Inputs that are equal under the comparison are one matching hunk, or none if they
+/// are empty.
 #[tactic(auto, using(crate::proofs::HunkEnds::compared_steps))]
 pub fn compared_hunks<'a, C: CompareBytes>(
     alloc: Global,
