@@ -1,18 +1,24 @@
--- The entries of a log after a crash.
--- Cited by contracts of public items: CrashLeaves, HasReplayAfterCrash, HasWith, MayContain,
--- file_entry.
-use Rattle.std.specs.Prelude.{◌⊎◌, ◌++◌, ◌∷◌, [], ℕ, List, Contains}
+-- The entries of a log in closed files and after a crash.
+-- Cited by contracts of public items: CrashLeaves, HasReplayAfterCrash, HasWith, IsLoaded,
+-- MayContain, SavesEntry, file_entry.
+use Rattle.std.specs.Prelude.{◌≡◌, ◌⊎◌, ◌++◌, ◌∷◌, [], ℕ, List, Contains, Some}
 use Rattle.sqlite_wal.specs.Recovery.{Image}
 use Rattle.sqlite_disk.specs.declared.Disk.{Ghosts}
+use Rattle.sqlite_disk.specs.declared.Files.{Files}
 use Rattle.sqlite_store.specs.declared.store.FileStore.{FileStore}
 use Rattle.sqlite_store.specs.FileStore as store
-use Rattle.sqlite.specs.Files.{HoldsDatabase}
+use Rattle.sqlite.specs.Files.{Finds, HoldsDatabase, over_files}
+use Rattle.sqlite.specs.Files as database
+use Rattle.sqlite.specs.Held.{Held}
 use Rattle.sqlite.specs.Tree.{Trees}
 use Rattle.jj_backend.specs.Objects.{file_object}
+use Rattle.jj_backend.specs.Records.{CommitValue}
 use Rattle.jj_mirror.specs.Entries.{LogEntryValue, entry_of}
 use Rattle.jj_mirror.specs.Replays.{IsReplay}
-use Rattle.jj_trees.specs.MemoryObjects.{MemoryBackendValue}
+use Rattle.jj_trees.specs.MemoryObjects.{MemoryBackendValue, objects_of}
+use Rattle.jj_sqlite.specs.Closing.{CrashContains, FilesContain, IsBackup}
 use Rattle.jj_sqlite.specs.Crashes.{HasLogAfterCrash}
+use Rattle.jj_sqlite.specs.Opening.{IsOpened}
 
 -- the entry of a file
 abbrev pub file_entry : List ℕ → LogEntryValue
@@ -21,6 +27,25 @@ file_entry contents = entry_of (file_object contents)
 -- P holds of these entries, which contain the entry, or of them and the entry at the end
 abbrev pub HasWith : (List LogEntryValue → Type 0) → List LogEntryValue → LogEntryValue → Type 0
 HasWith P entries entry = (Contains entries entry × P entries) ⊎ P (entries ++ entry ∷ [])
+
+-- The closed files have these entries, which contain the entry, or these and the entry at the end:
+-- for whoever opens them, after a crash, and for whoever opens a copy of the database file.
+pub record SavesEntry {D : Type 0} (g : Ghosts D) (files : Files D) (entries : List LogEntryValue)
+    (entry : LogEntryValue) : Type 0 where
+  pub now : HasWith (FilesContain g files) entries entry
+  pub crash : HasWith (CrashContains g files) entries entry
+  pub backup : HasWith (IsBackup g files) entries entry
+
+-- A connection that was opened on the files found their database. The backend of its log's rows has
+-- the commit under the id, and this connection is what reading them left.
+pub record IsLoaded {D : Type 0} (g : Ghosts D) (files : Files D) (conn : Held (FileStore D g))
+    (id : List ℕ) (commit : CommitValue) : Type 0 where
+  pub opened : Held (FileStore D g)
+  pub backend : MemoryBackendValue
+  pub finds : Finds files opened
+  pub is_open : database.IsOpened opened
+  pub is_replay : IsOpened over_files opened conn backend
+  pub found : (objects_of backend).commits id ≡ Some commit
 
 -- this content of the files holds the database of a log with these entries, and at most one more,
 -- whose write failed

@@ -1,5 +1,6 @@
 //! Proved callers: a commit that is read from a database by a later process.
-ghost use Rattle.std.specs.Prelude.{◌≡◌, ℕ, IsTrue, List, All, Contains, take, IfOk, IfErr, OnOk};
+ghost use Rattle.std.specs.Prelude.{◌≡◌, ℕ, IsTrue, List, All, Contains, Some, take};
+ghost use Rattle.std.specs.Prelude.{IfOk, IfErr, OnOk};
 ghost use Rattle.sqlite.specs.Files.{file_state, over_files};
 ghost use Rattle.sqlite.specs.Held.{state};
 ghost use Rattle.sqlite.specs.State.{HasCleanDisk};
@@ -14,8 +15,10 @@ ghost use Rattle.jj_sqlite.specs.Inserts.{ContainsEntries, StoresEntries, WasNew
 ghost use Rattle.jj_sqlite.specs.Rows.{HasDigest};
 ghost use Rattle.jj_sqlite.specs.Faults.{HasFault};
 ghost use Rattle.jj_sqlite.specs.Closing.{CrashContains, FilesContain, IsBackup};
-ghost use Rattle.jj_sqlite.specs.Tables.{HasOnlyRowsOf};
-ghost use Rattle.jj_sqlite_tests.specs.SavedFiles.{HasWith};
+ghost use Rattle.jj_sqlite.specs.Opening.{IsOpened};
+ghost use Rattle.jj_sqlite.specs.Tables.{CountsRowsOf, HasOnlyRowsOf};
+ghost use Rattle.jj_sqlite_tests.specs.SavedFiles.{HasWith, IsLoaded, SavesEntry};
+ghost use Rattle.jj_trees.specs.MemoryObjects.{MemoryBackendValue, objects_of};
 
 use jj_backend::backend::{Backend, BackendResult, Commit, CommitId, NoSigner};
 use jj_mirror::mirrored::Mirrored;
@@ -84,11 +87,17 @@ pub fn read_stored<S: Alter>(
     conn: Connection<S>,
     id: &CommitId,
 ) -> (Result<Commit, OpenError>, Connection<S>)
-    ensures { HasCleanDisk (state S.Store result.1) → IfOk result.0 (λ read.
+    ensures value { HasCleanDisk (state S.Store result.1) → IfOk result.0 (λ read.
         (entries : List LogEntryValue) → WasNewOrContains S.Store conn entries
         → (commit : CommitValue) → IsCommit commit
         → Contains entries (entry_of (commit_object commit))
         → id.now ≡ blake2b (commit_content commit) → read ≡ commit) }
+    // The backend of the log's rows has this commit under the id.
+    ensures found { HasCleanDisk (state S.Store result.1) → IfOk result.0 (λ read.
+        (backend : MemoryBackendValue) × IsOpened S.Store conn result.1 backend
+        × ((objects_of backend).commits id.now ≡ Some read)) }
+    ensures clean { IfOk result.0 (λ _. HasCleanDisk (state S.Store result.1)
+        → HasCleanDisk (state S.Store conn)) }
 {
     let store = match open_store(alloc, conn) {
         Ok(store) => store,
@@ -139,11 +148,14 @@ pub fn load_commit<D: Disk + Drop>(
 ) -> Result<(Commit, Connection<FileStore<D>>), OpenError>
     requires log { IsTrue (D.Disk.is_usable files.log) }
     requires db { IsTrue (D.Disk.is_usable files.db) }
-    ensures { IfOk result (λ loaded. HasCleanDisk (file_state loaded.1)
+    ensures value { IfOk result (λ loaded. HasCleanDisk (file_state loaded.1)
         → (entries : List LogEntryValue) → FilesContain D.Disk files entries
         → (commit : CommitValue) → IsCommit commit
         → Contains entries (entry_of (commit_object commit))
         → id.now ≡ blake2b (commit_content commit) → loaded.0 ≡ commit) }
+    // A connection found the log in these files, and its replay has this commit under the id.
+    ensures found { IfOk result (λ loaded. HasCleanDisk (file_state loaded.1)
+        → IsLoaded D.Disk files loaded.1 id.now loaded.0) }
 {
     let conn = match Connection::open_files(alloc, files, options) {
         Ok(conn) => conn,
@@ -161,9 +173,15 @@ pub fn reread_commit<D: Disk + Drop>(
     commit: Commit,
     options: Options,
 ) -> Result<(Commit, Connection<FileStore<D>>), OpenError>
-    ensures { IfOk result (λ reread. HasCleanDisk (file_state reread.1)
+    ensures commit { IfOk result (λ reread. HasCleanDisk (file_state reread.1)
         → (entries : List LogEntryValue) → WasNewOrContains over_files conn entries
         → reread.0 ≡ commit) }
+    // The closed files have the commit's entry, and the commit is read from them by its digest.
+    ensures files { IfOk result (λ reread. (files : Files D)
+        × ((entries : List LogEntryValue) → WasNewOrContains over_files conn entries
+        → SavesEntry D.Disk files entries (entry_of (commit_object commit)))
+        × (HasCleanDisk (file_state reread.1)
+        → IsLoaded D.Disk files reread.1 (blake2b (commit_content commit)) reread.0)) }
 {
     let saved = save_commit(alloc, conn, commit)?;
     let (id, files) = saved;
@@ -193,14 +211,18 @@ pub fn check_objects<S: Alter>(
 }
 
 /// Opens a store over a database that may have lost rows of its log. If that succeeds, the backend
-/// has the objects of the first entries, and none of them is skipped.
+/// has the objects of the first entries, and none of them is skipped; it has those of all entries
+/// if SQLite counted them.
 pub fn open_damaged<S: Alter>(
     alloc: Global,
     conn: Connection<S>,
 ) -> Result<Mirrored<SqliteLog<S>>, (OpenError, Connection<S>)>
-    ensures { IfOk result (λ store. HasCleanDisk (state S.Store store.log.conn)
+    ensures first { IfOk result (λ store. HasCleanDisk (state S.Store store.log.conn)
         → (entries : List LogEntryValue) → HasOnlyRowsOf (state S.Store conn) entries
         → (count : ℕ) × IsReplay (take count entries) store.backend) }
+    ensures all { IfOk result (λ store. HasCleanDisk (state S.Store store.log.conn)
+        → (entries : List LogEntryValue) → CountsRowsOf (state S.Store conn) entries
+        → IsReplay entries store.backend) }
 {
     open_store(alloc, conn)
 }
