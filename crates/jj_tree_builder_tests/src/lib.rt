@@ -1,0 +1,4 @@
+//! Proved callers of tree builders.
+#![tactic(auto)]
+
+pub mod callers;
