@@ -1,12 +1,15 @@
 -- One more list of results, joined and beside its set.
-use Rattle.std.proofs.Common.{◌≡◌, ◌∙◌, ℕ, zero, suc, ◌+◌, List, [], ◌∷◌, ◌++◌, length, take, Some, refl, sym, ap, subst, arith}
+use Rattle.std.proofs.Common.{◌≡◌, ◌∙◌, ℕ, zero, suc, ◌+◌, ◌-◌, List, [], ◌∷◌, ◌++◌, length, take, Some, refl, sym, ap, subst, arith}
 use Rattle.std.specs.Prelude.{Result, Ok, Err, MatchResult, slice_get}
 use Rattle.std.specs.List.{AllZip, zip}
-use Rattle.std.proofs.lemmas.List.{append-nil, length-append}
+use Rattle.std.proofs.lemmas.List.{append-nil, length-append, take_all}
 use Rattle.std.proofs.lemmas.List.Concat.{flat_map-append}
 use Rattle.jj_core_c.specs.declared.error.Error.{Error}
 use Rattle.jj_core_c.specs.declared.error.Error.TheVariants.{Memory, Ends, Length, Syntax, Terms, Conflict, Node, Cycle, Path, Expression}
-use Rattle.jj_core_c.specs.GraphBatches.{FailsBoth, IsBatchCause, IsRoomCause, WritesJoined, WritesLists, ends_of, joined}
+use Rattle.jj_core_c.specs.ArrayGraphs.{AreAscendingHeads, AreBelow, IsAcyclicGraph, WritesFound, graph_of}
+use Rattle.jj_core_c.specs.Buffers.{Writes}
+use Rattle.jj_core_c.specs.GraphBatches.{AreHeadsOfEach, AreSets, FailsBoth, IsBatchCause, IsRoomCause, WritesJoined, WritesLists, ends_of, joined}
+use Rattle.jj_core_c.specs.Pieces.{pieces_of}
 use Rattle.jj_core_c.specs.Statuses.{Accepts}
 use Rattle.jj_core_c.proofs.Flags.{AllZip-next}
 use Rattle.jj_core_c.proofs.PieceLists.{take_next}
@@ -64,3 +67,24 @@ module _ (targets ends : List ℕ) (AreDivided AreNodes IsValid : Type 0) (AreRe
       → MatchResult result (Accepts IsValid (WritesJoined AreResults old new old_ends new_ends)) (FailsBoth old new old_ends new_ends (IsBatchCause targets ends AreDivided AreNodes AreResults room end_room))
   outcome (Ok n) written = (valid, (found, are, written))
   outcome (Err error) fails = (cause error fails.0, fails.1, fails.2)
+
+whole : (nodes : List ℕ) → pieces_of nodes (length nodes ∷ []) ≡ nodes ∷ []
+whole nodes =
+    let len : length nodes - 0 ≡ length nodes = omega arith in
+    ap (λ (l : List ℕ). l ∷ []) (ap (λ (n : ℕ). take n nodes) len ∙ take_all (length nodes) nodes (omega arith))
+
+one_found : (R : List ℕ → List ℕ → Type 0) (set : List ℕ) (found : List (List ℕ)) → AllZip R (set ∷ []) found → (one : List ℕ) × R set one × (joined found ≡ one)
+one_found R set [] all = absurd all
+one_found R set (one ∷ []) all = (one, all.0, append-nil one)
+one_found R set (one ∷ two ∷ rest) all = absurd all.1
+
+-- the heads of the only set, from a call for many
+module _ (targets ends nodes node_ends old new old_ends new_ends : List ℕ) (is : node_ends ≡ length nodes ∷ []) (Cause : Error → Type 0) where
+  pub one_set : (result : Result ℕ Error)
+      → MatchResult result (Accepts (IsAcyclicGraph targets ends × (AreSets nodes node_ends × AreBelow (length ends) nodes)) (WritesJoined (AreHeadsOfEach (graph_of targets ends) nodes node_ends) old new old_ends new_ends)) (FailsBoth old new old_ends new_ends Cause)
+      → MatchResult result (Accepts (IsAcyclicGraph targets ends × AreBelow (length ends) nodes) (WritesFound (AreAscendingHeads (graph_of targets ends) nodes) old new)) (λ _. new ≡ old)
+  one_set (Ok n) w =
+      let pieces : pieces_of nodes node_ends ≡ nodes ∷ [] = ap (pieces_of nodes) is ∙ whole nodes in
+      let one = one_found (AreAscendingHeads (graph_of targets ends)) nodes w.1.0 (subst (λ (l : List (List ℕ)). AllZip (AreAscendingHeads (graph_of targets ends)) l w.1.0) pieces w.1.1) in
+      ((w.0.0, w.0.1.1), (one.0, one.1, subst (λ (l : List ℕ). Writes old new l n) one.2 w.1.2.0))
+  one_set (Err error) fails = fails.1

@@ -1,8 +1,8 @@
 //! Many questions to one graph: a call reads the graph and checks it once.
-ghost use Rattle.std.specs.Prelude.{IfOk, List, MatchResult, length, ℕ};
+ghost use Rattle.std.specs.Prelude.{◌≡◌, ◌∷◌, [], IfOk, List, MatchResult, length, ℕ};
 ghost use Rattle.jj_dag.specs.ArrayGraphs.{HasCycle};
 ghost use Rattle.jj_dag.specs.ArrayGraphs.{graph_of as lists_graph};
-ghost use Rattle.jj_core_c.specs.ArrayGraphs.{AreBelow, IsAcyclicGraph, graph_of};
+ghost use Rattle.jj_core_c.specs.ArrayGraphs.{AreAscendingHeads, AreBelow, IsAcyclicGraph, WritesFound, graph_of};
 ghost use Rattle.jj_core_c.specs.GraphBatches.{AreCommonOfEach, AreHeadsOfEach, ArePairs, AreSets, FailsBoth, IsBatchCause, Joins, WritesJoined};
 ghost use Rattle.jj_core_c.specs.Statuses.{Accepts, Returns};
 
@@ -126,6 +126,26 @@ fn write_common_each(
     }
     let lists = common_of_each(alloc, &graph, set1, ends1, set2, ends2)?;
     write_joined(&lists, common, common_ends)
+}
+
+// Writes the heads of all nodes by the call for many sets; the proved caller of the exported batch.
+pub(crate) fn heads_of_all(
+    alloc: Global,
+    targets: &[usize],
+    ends: &[usize],
+    nodes: &[usize],
+    node_ends: &[usize],
+    heads: &mut [usize],
+    head_ends: &mut [usize],
+) -> i64
+    requires { node_ends.now ≡ length nodes.now ∷ [] }
+    ensures { Returns result
+        (Accepts (IsAcyclicGraph targets.now ends.now × AreBelow (length ends.now) nodes.now)
+        (WritesFound (AreAscendingHeads (graph_of targets.now ends.now) nodes.now)
+        heads.old heads.new))
+        (λ _. heads.new ≡ heads.old) }
+{
+    jj_graph_heads_each(alloc, targets, ends, nodes, node_ends, heads, head_ends)
 }
 
 /// Writes for each set of nodes those that are reachable from no other of the set, in ascending
