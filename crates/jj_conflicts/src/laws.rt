@@ -30,8 +30,10 @@ pub fn rendering_is_exact()
 
 /// With the chosen marker length no line of the hunks is a marker, in any style.
 pub fn chosen_marker_len_is_parsable()
+    // With markers of the chosen length the hunks can be parsed, whatever their lines are.
     ensures len { (style : ConflictMarkerStyle) (sides : ℕ) (hunks : List (List (List ℕ)))
         → IsMergeOfLines sides hunks
         → IsParsable (run_limit style (chosen_marker_len hunks)) sides hunks }
+    // The length is not 0.
     ensures positive { (hunks : List (List (List ℕ))) → 0 < chosen_marker_len hunks }
 {}

@@ -20,7 +20,9 @@ pub fn open_database(
     path: &str,
     milliseconds: u64,
 ) -> Result<Connection<FileStore<File>>, OpenError>
+    // If the disk returned what was written to it, the connection is open.
     ensures opened { IfOk result (λ conn. HasCleanDisk (file_state conn) → IsOpened conn) }
+    // An error is that of SQLite.
     ensures error { IfErr result (λ e. (cause : Error) × (e ≡ sqlite_error cause)) }
 {
     for _ in 0..milliseconds / PAUSE {

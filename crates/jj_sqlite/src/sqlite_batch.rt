@@ -32,9 +32,11 @@ impl<S: Alter> SqliteBatch<S> {
     /// Opens a transaction over a log. Fails with `Sqlite`, or with `Memory` if memory runs out; an
     /// error returns the log too.
     pub fn begin(log: SqliteLog<S>) -> Result<Self, (OpenError, SqliteLog<S>)>
+        // The batch begins with the entries that a crash leaves in the table.
         ensures ok { IfOk result (λ batch. (entries : List LogEntryValue)
             → StoresEntries S.Store log.conn entries
             → IsBatch S.Store batch.conn entries entries) }
+        // After an error the log has its entries, also after a crash.
         ensures unchanged { IfErr result (λ e.
             Keeps (StoresEntries S.Store) log.conn e.1.conn) }
     {
@@ -58,8 +60,10 @@ impl<S: Alter> SqliteBatch<S> {
     /// `Memory` if memory runs out: whoever opens the database then finds all of them or none. An
     /// error returns the connection too.
     pub fn commit(self) -> Result<SqliteLog<S>, (OpenError, Connection<S>)>
+        // After a commit the table has all entries of the batch, also after a crash.
         ensures ok { IfOk result (λ log. (kept entries : List LogEntryValue)
             → IsBatch S.Store self.conn kept entries → StoresEntries S.Store log.conn entries) }
+        // After an error a crash leaves the entries from before the batch or all of it.
         ensures crash { IfErr result (λ e. (kept entries : List LogEntryValue)
             → IsBatch S.Store self.conn kept entries
             → LeavesAllOrNone S.Store e.1 kept entries) }
@@ -110,18 +114,22 @@ impl<S: Alter> ObjectLog for SqliteBatch<S> {
         id: &[u8],
         bytes: &[u8],
     ) -> BackendResult<()>
+        // On success the entry follows those of the batch.
         ensures ok { OnOk result (Appends (λ conn entries. (kept : List LogEntryValue)
             × IsBatch S.Store conn kept entries) self.old.conn self.new.conn
             (record { kind = kind; id = id.now; bytes = bytes.now })) }
+        // After an error the batch has its entries.
         ensures unchanged { OnErr result (Keeps (λ conn entries. (kept : List LogEntryValue)
             × IsBatch S.Store conn kept entries) self.old.conn self.new.conn) }
         // The last commit stays as it is.
         ensures appended { OnOk result ((kept entries : List LogEntryValue)
             → IsBatch S.Store self.old.conn kept entries → IsBatch S.Store self.new.conn kept
             (entries ++ record { kind = kind; id = id.now; bytes = bytes.now } ∷ [])) }
+        // After an error a commit still writes the entries appended before.
         ensures kept { OnErr result ((kept entries : List LogEntryValue)
             → IsBatch S.Store self.old.conn kept entries
             → IsBatch S.Store self.new.conn kept entries) }
+        // An error is that of the statement, or of a transaction that has ended.
         ensures error { IfErr result (MayFailToBatch S.Store self.old.conn
             (record { kind = kind; id = id.now; bytes = bytes.now })) }
     {

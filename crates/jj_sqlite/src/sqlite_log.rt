@@ -44,8 +44,10 @@ impl<S: Alter> SqliteLog<S> {
     /// the database has other tables, indexes or views and no table of a log, and else with
     /// `Sqlite`, or with `Memory` if memory runs out; an error returns the connection too.
     pub fn over(mut conn: Connection<S>) -> Result<Self, (OpenError, Connection<S>)>
+        // The table of the log is there or was created.
         ensures ok { IfOk result (λ log. HasCleanDisk (state S.Store log.conn)
             → IsCreated S.Store conn log.conn) }
+        // The log has the entries whose rows the table has, also after a crash.
         ensures entries { IfOk result (λ log. (entries : List LogEntryValue)
             → WasNewOrContains S.Store conn entries → StoresEntries S.Store log.conn entries) }
         // Rows of these entries, of which some were lost, stay as they are.
@@ -64,6 +66,8 @@ impl<S: Alter> SqliteLog<S> {
         ensures crash { IfErr result (λ e. Survives (state S.Store conn) (state S.Store e.1) (λ db.
             (entries : List LogEntryValue) → HasCleanDisk (state S.Store conn)
             → WasNewOrContains S.Store conn entries → HasLog db entries)) }
+        // An error is that of the statement that creates the table, or the database is another
+        // program's.
         ensures error { IfErr result (λ e. HasCleanDisk (state S.Store e.1)
             → FailsToCreate S.Store conn e.1 e.0) }
         // A database of another program is not opened.
@@ -85,9 +89,11 @@ impl<S: Alter> SqliteLog<S> {
     /// object (`WrongObject`), if SQLite counted another number of rows (`Lost`), and with `Memory`
     /// if memory runs out. A table that an older version created is not counted.
     pub fn read_entries(&mut self, alloc: Global) -> Result<Vec<LogEntry>, OpenError>
+        // The entries are those of the rows of the table, in the order of their numbers.
         ensures rows { HasCleanDisk (state S.Store self.new.conn) → IfOk result (λ entries.
             (rows : List Row) × AllZip IsGoodRow rows entries.items × AreNumbered rows
             × IsRead S.Store self.old.conn self.new.conn rows) }
+        // If the table has exactly the rows of these entries, they are returned.
         ensures entries { HasCleanDisk (state S.Store self.new.conn) → IfOk result (λ read.
             (entries : List LogEntryValue) → ContainsEntries S.Store self.old.conn entries
             → read.items ≡ entries) }
@@ -100,9 +106,13 @@ impl<S: Alter> SqliteLog<S> {
         ensures counted { HasCleanDisk (state S.Store self.new.conn) → IfOk result (λ read.
             (entries : List LogEntryValue) → CountsRowsOf (state S.Store self.old.conn) entries
             → read.items ≡ entries) }
+        // Reading changes no entry, also not what a crash leaves.
         ensures kept { OnOk result (Keeps (StoresEntries S.Store) self.old.conn self.new.conn) }
+        // If the disk returned what was written to it up to the end of the call, it did at the
+        // start.
         ensures clean { HasCleanDisk (state S.Store self.new.conn)
             → HasCleanDisk (state S.Store self.old.conn) }
+        // An error is that of a statement, of the first row that has one, or of the count.
         ensures error { HasCleanDisk (state S.Store self.new.conn)
             → IfErr result (FailsToRead S.Store self.old.conn self.new.conn) }
     {
@@ -230,8 +240,11 @@ fn next_entry(row: &Row, count: usize) -> Result<LogEntry, OpenError>
 /// (`UnknownKind`) or whose id is not the digest of its object (`WrongObject`), and with `Memory`
 /// if memory runs out.
 pub fn entries_from_rows(alloc: Global, rows: &[Row]) -> Result<Vec<LogEntry>, OpenError>
+    // Each row is that of the entry at its index, whose id is the digest of its object.
     ensures ok { IfOk result (λ entries. AllZip IsGoodRow rows.now entries.items) }
+    // On success the rows are numbered in their order, from 1.
     ensures numbered { OnOk result (AreNumbered rows.now) }
+    // An error is that of the first row that has one.
     ensures wrong { IfErr result (IsReadError rows.now) }
 {
     let mut entries = Vec::new(alloc);
@@ -296,6 +309,7 @@ impl<S: Alter> ObjectLog for SqliteLog<S> {
         // most that of the one that failed.
         ensures ok { OnOk result (Appends (StoresEntries S.Store) self.old.conn self.new.conn
             (record { kind = kind; id = id.now; bytes = bytes.now })) }
+        // After an error the log has its entries, also after a crash.
         ensures unchanged { OnErr result
             (Keeps (StoresEntries S.Store) self.old.conn self.new.conn) }
         // A crash leaves a database that it could leave before the call, or the log with this
@@ -304,8 +318,10 @@ impl<S: Alter> ObjectLog for SqliteLog<S> {
             (entries : List LogEntryValue) → HasCleanDisk (state S.Store self.old.conn)
             → ContainsEntries S.Store self.old.conn entries → HasLog db
             (entries ++ record { kind = kind; id = id.now; bytes = bytes.now } ∷ [])) }
+        // An error is one that the statement for the entry may have.
         ensures error { IfErr result (MayFailToInsert S.Store self.old.conn
             (record { kind = kind; id = id.now; bytes = bytes.now })) }
+        // The statement for the entry failed with an error of SQLite, which is converted.
         ensures cause { IfErr result (λ e. (cause : Error)
             × FailsToInsert S.Store (record { kind = kind; id = id.now; bytes = bytes.now })
             self.old.conn self.new.conn cause × ConvertsTo cause e) }

@@ -68,6 +68,7 @@ pub fn open_store<S: Alter>(
     alloc: Global,
     conn: Connection<S>,
 ) -> Result<Mirrored<SqliteLog<S>>, (OpenError, Connection<S>)>
+    // The table of the log is there or was created, and the backend has the objects of its entries.
     ensures ok { IfOk result (λ store. HasCleanDisk (state S.Store store.log.conn)
         → IsOpened S.Store conn store.log.conn store.backend) }
     // If the table has exactly the rows of these entries, the backend stores their objects.
@@ -84,6 +85,7 @@ pub fn open_store<S: Alter>(
     ensures counted { IfOk result (λ store. HasCleanDisk (state S.Store store.log.conn)
         → (entries : List LogEntryValue) → CountsRowsOf (state S.Store conn) entries
         → IsReplay entries store.backend) }
+    // Opening changes no entry: after a crash at this moment the table has the rows of all of them.
     ensures kept { IfOk result (λ store. (entries : List LogEntryValue)
         → WasNewOrContains S.Store conn entries
         → StoresEntries S.Store store.log.conn entries) }
@@ -91,6 +93,7 @@ pub fn open_store<S: Alter>(
     // the start.
     ensures clean { IfOk result (λ store. HasCleanDisk (state S.Store store.log.conn)
         → HasCleanDisk (state S.Store conn)) }
+    // An error is that of creating the table, of reading its rows, or of replaying their entries.
     ensures error { IfErr result (λ e. HasCleanDisk (state S.Store e.1)
         → IsOpenError S.Store conn e.1 e.0) }
     // A database of another program is not opened.
@@ -119,8 +122,11 @@ pub fn close_database<D: Disk + Drop>(conn: Connection<FileStore<D>>) -> Result<
     // Whoever opens a copy of the database file finds the entries.
     ensures backup { IfOk result (λ files. (entries : List LogEntryValue)
         → ContainsEntries over_files conn entries → IsBackup D.Disk files entries) }
+    // The file of the write-ahead log can be used again.
     ensures log { IfOk result (λ files. IsTrue (D.Disk.is_usable files.log)) }
+    // The database file can be used again.
     ensures db { IfOk result (λ files. IsTrue (D.Disk.is_usable files.db)) }
+    // An error is that of SQLite.
     ensures error { IfErr result (λ e. (cause : Error) × (e ≡ sqlite_error cause)) }
 {
     let _schema = conn.schema();
@@ -138,17 +144,23 @@ pub fn close_database<D: Disk + Drop>(conn: Connection<FileStore<D>>) -> Result<
 pub fn close_store<D: Disk + Drop>(
     store: Mirrored<SqliteLog<FileStore<D>>>,
 ) -> Result<Files<D>, OpenError>
+    // Whoever opens the files finds the entries of the log.
     ensures entries { IfOk result (λ files. (entries : List LogEntryValue)
         → ContainsEntries over_files store.log.conn entries
         → FilesContain D.Disk files entries) }
+    // Whoever opens what a crash leaves of the files finds the entries.
     ensures crash { IfOk result (λ files. (entries : List LogEntryValue)
         → ContainsEntries over_files store.log.conn entries
         → CrashContains D.Disk files entries) }
+    // Whoever opens a copy of the database file finds the entries.
     ensures backup { IfOk result (λ files. (entries : List LogEntryValue)
         → ContainsEntries over_files store.log.conn entries
         → IsBackup D.Disk files entries) }
+    // The file of the write-ahead log can be used again.
     ensures log { IfOk result (λ files. IsTrue (D.Disk.is_usable files.log)) }
+    // The database file can be used again.
     ensures db { IfOk result (λ files. IsTrue (D.Disk.is_usable files.db)) }
+    // An error is that of SQLite.
     ensures error { IfErr result (λ e. (cause : Error) × (e ≡ sqlite_error cause)) }
 {
     let (_, log) = store.into_parts();

@@ -102,8 +102,10 @@ pub fn grouped_history<B: Backend>(
     store: &B,
     ids: &[CommitId],
 ) -> Result<Vec<ReadCommit>, WalkError<HistoryError>>
+    // The commits are the ancestors of `ids`, each once, grouped by branches.
     ensures order { IfOk result (λ order.
         IsGroupedHistory (B.objects store.now) ids.now order.items) }
+    // An error but `Memory` is that of a failed read of such an ancestor, or of a cycle.
     ensures error { IfFails result (IsHistoryError (B.objects store.now) (B.may_fail store.now)
         ids.now) }
 {

@@ -17,8 +17,10 @@ pub fn head_commits<B: Backend>(
     store: &B,
     ids: Vec<CommitId>,
 ) -> Result<HashSet<CommitId>, WalkError<BackendError>>
+    // The heads are those of `ids` that are no ancestors of others.
     ensures heads { IfOk result (λ heads.
         AreHeadCommits (B.objects store.now) ids.items heads.keys) }
+    // An error but `Memory` is that of a failed read of one of `ids` or of an ancestor.
     ensures error { IfFails result
         (IsReadErrorBelow (B.objects store.now) (B.may_fail store.now) ids.items) }
 {

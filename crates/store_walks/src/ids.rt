@@ -30,10 +30,13 @@ pub fn history_ids<B: Backend>(
     store: &B,
     ids: &[CommitId],
 ) -> Result<Vec<CommitId>, WalkError<HistoryError>>
+    // The order has the ancestors of `ids`, each once and before its own ancestors.
     ensures order { IfOk result (λ order. InEachHistory (B.objects store.now)
         (λ parents. IsChildFirstOrder parents ids.now order.items)) }
+    // Where there is a choice, the greatest id comes first.
     ensures greatest { IfOk result (λ order.
         TakesGreatestHeads (B.objects store.now) order.items) }
+    // An error but `Memory` is that of a failed read of such an ancestor, or of a cycle.
     ensures error { IfFails result (IsHistoryError (B.objects store.now) (B.may_fail store.now)
         ids.now) }
 {

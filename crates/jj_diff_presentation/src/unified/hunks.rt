@@ -132,10 +132,13 @@ pub fn group_diff_lines<'a>(
     lines: &[DiffLine<'a>],
     context: usize,
 ) -> Result<Vec<UnifiedDiffHunk<'a>>, AllocError>
+    // The hunks are a patch from the left lines to the right ones.
     ensures patch { IfOk result
         (λ hunks. IsPatch (left_lines lines.now) (right_lines lines.now) hunks.items) }
+    // Each hunk has as many lines of context as there are, up to `context`.
     ensures context { IfOk result
         (λ hunks. HasContext context (length (left_lines lines.now)) hunks.items) }
+    // If all lines are context, there is no hunk.
     ensures identity { IfOk result (λ hunks. AreContext lines.now → hunks.items ≡ []) }
 {
     let mut hunks = Vec::new(alloc);
