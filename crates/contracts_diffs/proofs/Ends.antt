@@ -7,7 +7,8 @@ use Rattle.jj_diff.specs.declared.diff.tokens.Tokenizer.TheVariants.{Lines}
 use Rattle.jj_diff.specs.Tokens.{IsCut, is_line_end}
 use Rattle.jj_diff.specs.Ends.{IsCommonStart, IsCommonEnd, suffix}
 use Rattle.jj_diff.specs.Hunks.{matched_start, matched_end, MatchesEnds, AreTrimmed}
-use Rattle.contracts_diffs.specs.Lines.{EndsInLine, StartsApart, EndsApart}
+use Rattle.jj_diff.specs.Anchors.{token_offsets, StandsOnce, HasFewTokens, IsCommonToken}
+use Rattle.contracts_diffs.specs.Lines.{EndsInLine, StartsApart, EndsApart, HasFewLines, SharesNoLine}
 
 last_of : (xs ys : List ℕ) (n : ℕ) → n ≡ length xs → 0 < n → get_or xs (length xs - 1) 0 ≡ 10 → get_or (xs ++ ys) (n - 1) 0 ≡ 10
 last_of xs ys n e lt last = grind (arith, common_steps, elements)
@@ -98,6 +99,24 @@ ends_apart hs trimmed k d lt = λ kind xs ys line ends_xs ends_ys e. no_line lin
     (subst (λ row. IsCommonEnd Lines row 0 (length line)) (sym e)
     (common_end (xs ++ line) (ys ++ line) 0 xs ys line ends_xs ends_ys refl refl (omega arith) (omega arith))))
 
-pub ruleset apart_steps = (starts_apart, ends_apart)
+-- a line that both of two versions have once
+common_line : (left right line : List ℕ) → StandsOnce Lines left line → StandsOnce Lines right line
+    → IsCommonToken Lines (left ∷ right ∷ []) line
+common_line left right line once again = record {
+  some = lit< tt;
+  once = both (λ i. StandsOnce Lines (get_or (left ∷ right ∷ []) i []) line) once again;
+}
+
+few_lines : (left right : List ℕ) → HasFewLines left → HasFewLines right → HasFewTokens Lines (left ∷ right ∷ [])
+few_lines left right few more =
+    both (λ i. length (token_offsets Lines (get_or (left ∷ right ∷ []) i [])) ≤ 65) (omega (arith, few)) (omega (arith, more))
+
+pub shares_no_line : (hs : List DiffHunk) → AreTrimmed Lines hs → All SharesNoLine hs
+shares_no_line hs trimmed k d lt = λ kind left right line e few more once again.
+    (trimmed k d lt kind).once
+    (subst (HasFewTokens Lines) (sym e) (few_lines left right few more)) line
+    (subst (λ row. IsCommonToken Lines row line) (sym e) (common_line left right line once again))
+
+pub ruleset apart_steps = (starts_apart, ends_apart, shares_no_line)
 
 pub ruleset ends_steps = (start_matches, end_matches)

@@ -1,8 +1,12 @@
 -- Whole lines of byte strings, and hunks of two versions.
--- Cited by contracts of public items: EndsInLine, StartsApart, EndsApart.
-use Rattle.std.specs.Prelude.{◌≡◌, ◌⊎◌, ℕ, ◌-◌, ◌++◌, List, [], ◌∷◌, length, slice_index}
+-- Cited by contracts of public items: EndsInLine, StartsApart, EndsApart, SharesNoLine.
+use Rattle.std.specs.Prelude.{◌≡◌, ◌⊎◌, ℕ, ◌-◌, ◌≤◌, ◌++◌, List, [], ◌∷◌, length, filter, slice_index}
+use Rattle.std.specs.List.{range_with_len}
 use Rattle.jj_diff.specs.declared.diff.hunks.DiffHunk.{DiffHunk}
 use Rattle.jj_diff.specs.declared.diff.hunks.DiffHunkKind.TheVariants.{Different}
+use Rattle.jj_diff.specs.declared.diff.tokens.Tokenizer.TheVariants.{Lines}
+use Rattle.jj_diff.specs.Tokens.{is_line_end}
+use Rattle.jj_diff.specs.Anchors.{StandsOnce}
 use Rattle.jj_diff.specs.Hunks.{row_of}
 
 -- nothing, or a byte string that ends in LF
@@ -18,3 +22,14 @@ StartsApart hunk = hunk.kind ≡ Different → (line xs ys : List ℕ) → EndsI
 abbrev pub EndsApart : DiffHunk → Type 0
 EndsApart hunk = hunk.kind ≡ Different → (xs ys line : List ℕ) → EndsInLine xs → EndsInLine ys
     → row_of hunk ≡ (xs ++ line) ∷ (ys ++ line) ∷ [] → line ≡ []
+
+-- at most 64 lines
+abbrev pub HasFewLines : List ℕ → Type 0
+HasFewLines text = length (filter (is_line_end text) (range_with_len 1 (length text))) ≤ 64
+
+-- a hunk that differs, and no line of which is exactly once in both of its parts, if each part has
+-- at most 64 lines
+abbrev pub SharesNoLine : DiffHunk → Type 0
+SharesNoLine hunk = hunk.kind ≡ Different → (left right line : List ℕ)
+    → row_of hunk ≡ left ∷ right ∷ [] → HasFewLines left → HasFewLines right
+    → StandsOnce Lines left line → ¬ (StandsOnce Lines right line)
