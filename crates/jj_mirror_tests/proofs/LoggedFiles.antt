@@ -6,6 +6,9 @@ use Rattle.std.proofs.lemmas.List.Elements.{Contains-push}
 use Rattle.jj_backend.specs.Objects.{file_object}
 use Rattle.jj_mirror.specs.Entries.{LogEntryValue, entry_of}
 use Rattle.jj_mirror.specs.Logs.{WithEntry, WithEntries}
+use Rattle.jj_mirror.specs.Replays.{IsReplayError}
+use Rattle.jj_mirror.specs.declared.error.ReplayError.{ReplayError}
+use Rattle.jj_mirror.specs.declared.error.ReplayError.TheVariants.{Memory}
 
 abbrev pub entries_of : List (Vec ℕ Global) → List LogEntryValue
 entries_of files = map (λ (file : Vec ℕ Global). entry_of (file_object file.items)) files
@@ -28,6 +31,10 @@ with_all P Q holds (e ∷ list) entries has = with_one (λ all. WithEntries P al
 pub with_contains : (log entries : List LogEntryValue) (entry : LogEntryValue) → WithEntry (λ all. log ≡ all) entries entry → Contains log entry
 with_contains log entries entry (inl has) = subst (λ (l : List LogEntryValue). Contains l entry) (sym has.1) has.0
 with_contains log entries entry (inr lacks) = subst (λ (l : List LogEntryValue). Contains l entry) (sym lacks.1) (Contains-push entries entry)
+
+-- lack of memory is an error of replaying any log
+pub memory_fails : (entries : List LogEntryValue) (e : ReplayError) → e ≡ Memory → IsReplayError entries e
+memory_fails entries e is = subst (IsReplayError entries) (sym is) tt
 
 -- ---- results
 

@@ -9,7 +9,7 @@ ghost use Rattle.jj_backend.specs.Records.{CommitValue};
 ghost use Rattle.jj_trees.specs.MemoryObjects.{MemoryBackendValue, digest_length};
 ghost use Rattle.jj_mirror.specs.Entries.{LogEntryValue, entry_of};
 ghost use Rattle.jj_mirror.specs.Logs.{WithEntries, WithEntry};
-ghost use Rattle.jj_mirror.specs.Replays.{IsReplay};
+ghost use Rattle.jj_mirror.specs.Replays.{IsReplay, IsReplayError};
 ghost use Rattle.jj_mirror_tests.specs.Truncations.{IsTruncatedAtStart};
 
 use jj_backend::backend::{Backend, BackendResult, Commit, CommitId, FileId, NoSigner};
@@ -34,10 +34,12 @@ fn beside<L: ObjectLog>(backend: MemoryBackend, log: L) -> Mirrored<L>
     }
 }
 
-/// Opens the store of a log: the replay of its entries, beside it.
+/// Opens the store of a log: the replay of its entries, beside it. Fails as `replay` does.
 pub fn open_log(alloc: Global, log: MemoryLog) -> Result<Mirrored<MemoryLog>, ReplayError>
     ensures replay { IfOk result (λ store. IsReplay log store.backend) }
     ensures log { IfOk result (λ store. store.log ≡ log) }
+    // The error is that of the first entry that cannot be replayed, or memory ran out.
+    ensures error { IfErr result (IsReplayError log) }
 {
     let backend = replay(alloc, log.entries())?;
     Ok(beside(backend, log))
@@ -167,7 +169,7 @@ pub fn log_files<L: ObjectLog>(
 }
 
 /// Opens the store of a log and writes files, up to the first write that fails. A log without an
-/// entry twice stays so.
+/// entry twice stays so. Fails only if the log cannot be replayed.
 pub fn distinct_files(
     alloc: Global,
     log: MemoryLog,
@@ -177,23 +179,11 @@ pub fn distinct_files(
         → AllPairs (λ a b. a ≢ b) store.log) }
     ensures replay { IfOk result (λ store. (backend : MemoryBackendValue)
         × IsReplay store.log backend) }
+    ensures error { IfErr result (IsReplayError log) }
 {
     let mut store = open_log(alloc, log)?;
     let _ = log_files(alloc, &mut store, files);
     Ok(store)
-}
-
-// Writes files to a new store, up to the first write that fails. Reports an error of opening the
-// empty log as lack of memory.
-fn written_store(alloc: Global, files: &[Vec<u8>]) -> Result<Mirrored<MemoryLog>, ReplayError>
-    ensures replay { IfOk result (λ store. (backend : MemoryBackendValue)
-        × IsReplay store.log backend) }
-    ensures error { IfErr result (λ e. e ≡ ReplayError.Memory) }
-{
-    match distinct_files(alloc, MemoryLog::new(alloc), files) {
-        Ok(store) => Ok(store),
-        Err(_) => Err(ReplayError::Memory),
-    }
 }
 
 /// Writes files to a new store, up to the first write that fails, and replays its log. That fails
@@ -201,7 +191,21 @@ fn written_store(alloc: Global, files: &[Vec<u8>]) -> Result<Mirrored<MemoryLog>
 pub fn replayed_files(alloc: Global, files: &[Vec<u8>]) -> Result<MemoryBackend, ReplayError>
     ensures { IfErr result (λ e. e ≡ ReplayError.Memory) }
 {
-    let store = written_store(alloc, files)?;
+    let store = distinct_files(alloc, MemoryLog::new(alloc), files)?;
+    replay(alloc, store.log().entries())
+}
+
+/// Opens the store of a log, writes files, up to the first write that fails, and replays the log.
+/// An error is that of the first entry of the given log that cannot be replayed, or memory ran out:
+/// no written file makes one.
+pub fn extended_log(
+    alloc: Global,
+    log: MemoryLog,
+    files: &[Vec<u8>],
+) -> Result<MemoryBackend, ReplayError>
+    ensures { IfErr result (IsReplayError log) }
+{
+    let store = distinct_files(alloc, log, files)?;
     replay(alloc, store.log().entries())
 }
 
