@@ -11,7 +11,7 @@ use jj_tree_builder::tree_builder::TreeBuilder;
 use std::alloc::{AllocError, Global};
 use std::collections::BTreeMap;
 
-// What a mark names.
+// The object that a mark names.
 #[derive(Debug, Drop)]
 enum Marked {
     File(FileId),

@@ -9,7 +9,7 @@ use Rattle.jj_backend.specs.declared.backend.tree_value.TreeValue.{TreeValue}
 use Rattle.jj_backend.specs.declared.backend.tree_value.TreeValue.TheVariants.{File, Symlink, Tree, GitSubmodule}
 use Rattle.jj_trees.specs.WrittenTrees.{stored_at}
 
--- what is at each path: a file, a symbolic link or a submodule
+-- the file, symbolic link or submodule at each path
 abbrev pub Files : Type 0
 Files = Path → Option TreeValue
 
@@ -35,7 +35,7 @@ module _ (trees : ById Entries) where
   abbrev pub files_at : Option TreeValue → Files
   files_at value path = file_of (stored_at trees value path)
 
-  -- A value at a path takes the place of what is at the path and below it, and of a file above it.
+  -- A value at a path replaces the files at the path and below it, and a file above it.
   abbrev pub put : Path → Option TreeValue → Files → Files
   put [] value files path = files_at value path
   put (name ∷ rest) value files [] = if is_some value then None else files []

@@ -21,7 +21,8 @@ is_file (Some (GitSubmodule id)) = true
 
 -- the changes below a name
 abbrev pub changes_of : BTreeMap Name (Vec Change) → Name → List Change
-changes_of below name = unwrap_or (option_map (λ changes. changes.items) (get name_cmp below name)) []
+changes_of below name =
+    unwrap_or (option_map (λ changes. changes.items) (get name_cmp below name)) []
 
 -- a file has no changes below it
 abbrev pub IsOpen : Pending → Type 0

@@ -6,7 +6,7 @@ ghost use Rattle.jj_backend.specs.Trees.{Entries};
 ghost use Rattle.jj_backend.specs.declared.backend.tree_value.TreeValue.{TreeValue};
 ghost use Rattle.jj_tree_builder.specs.Changes.{Files, file_of, files_at, put};
 
-/// What a change does to the files of a tree.
+/// The effects of a change on the files of a tree.
 ///
 /// - `here`: at the path is the value, if it is no directory.
 /// - `there`: at the path and below it are the files of the value, which is none after a removal.

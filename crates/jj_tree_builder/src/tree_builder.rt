@@ -28,7 +28,7 @@ const MAX_LEVELS: usize = 1024;
 // A path and the value to put there; `None` removes what is there.
 type Change = (RepoPathBuf, Option<TreeValue>);
 
-// What changes leave of a value: the last value at its own path, and the changes below it since, by
+// The outcome of changes: the last value at their own path, and the changes below it since, by
 // the first names of their paths. If there are any, the value is absent or a directory.
 #[derive(Drop)]
 struct Pending {
