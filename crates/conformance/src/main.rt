@@ -29,6 +29,7 @@ fn call(alloc: Global, name: &str, request: &Request, values: &mut Values) -> bo
         || rows_trees::call(alloc, name, request, values)
         || rows_views::call(alloc, name, request, values)
         || rows_walks::call(alloc, name, request, values)
+        || rows_diffs::call(alloc, name, request, values)
         || rows_program::call(alloc, name, request, values)
 }
 
