@@ -9,7 +9,7 @@ use rows::request::{Fields, Request};
 use rows::row_error::{RowError, needs};
 use rows::values::Values;
 use smallvec::SmallVec;
-use std::alloc::Global;
+use std::alloc::{AllocError, Global};
 
 fn style_of(fields: &Fields) -> ConflictMarkerStyle {
     match fields.string(0) {
@@ -19,17 +19,25 @@ fn style_of(fields: &Fields) -> ConflictMarkerStyle {
     }
 }
 
+fn terms_of(alloc: Global, group: &Fields) -> Result<Vec<Vec<u8>>, AllocError> {
+    let mut terms = Vec::new(alloc);
+    for term in 0..group.len() {
+        terms.push(Vec::from_slice(alloc, group.bytes(term))?)?;
+    }
+    Ok(terms)
+}
+
+fn hunk_of(alloc: Global, group: &Fields) -> Result<Merge<Vec<u8>>, RowError> {
+    let terms = terms_of(alloc, group)?;
+    needs(terms.len() % 2 == 1, "an odd number of terms")?;
+    Ok(Merge::from_vec(SmallVec::from_vec(terms)))
+}
+
 // The terms of each group but the first two.
 fn hunks_of(alloc: Global, groups: &[Fields]) -> Result<Vec<Merge<Vec<u8>>>, RowError> {
     let mut hunks = Vec::new(alloc);
     for index in 2..groups.len() {
-        let group = &groups[index];
-        needs(group.len() % 2 == 1, "an odd number of terms")?;
-        let mut terms = Vec::new(alloc);
-        for term in 0..group.len() {
-            terms.push(Vec::from_slice(alloc, group.bytes(term))?)?;
-        }
-        hunks.push(Merge::from_vec(SmallVec::from_vec(terms)))?;
+        hunks.push(hunk_of(alloc, &groups[index])?)?;
     }
     Ok(hunks)
 }
