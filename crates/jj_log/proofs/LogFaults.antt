@@ -1,10 +1,10 @@
--- Faults of inputs from errors of their logs, and the columns that words ask for.
+-- Faults of inputs from errors of their logs, and the columns that a command line allows.
 use Rattle.std.proofs.Common.{◌≡◌, ◌∙◌, ◌∷◌, [], ℕ, List, String, Global, inl, inr, get_or, sym}
 use Rattle.jj_log.specs.InputLines.{AreCommitsOf}
 use Rattle.jj_log.specs.Labels.{name_of}
 use Rattle.jj_log.specs.LogDrawings.{IsLogError}
 use Rattle.jj_log.specs.Reports.{IsFaultAt}
-use Rattle.jj_log.specs.Runs.{AskForColumns, IsInputFault}
+use Rattle.jj_log.specs.Runs.{AllowsColumns, IsInputFault}
 use Rattle.jj_log.specs.declared.commits.Commit.{Commit}
 use Rattle.jj_log.specs.declared.fault.Fault.{Fault}
 use Rattle.jj_log.specs.declared.fault.Fault.TheVariants.{NotUtf8, Line}
@@ -28,8 +28,8 @@ module _ (most : ℕ) (input : List ℕ) (commits : List Commit) (numbers : List
   wide error NotUtf8 at = absurd at
   wide error (Line number kind quoted) at = inr (inr (inr (commits, numbers, are, i, error, at)))
 
-pub asked_once : (words : List (String Global)) (a b : ℕ) → AskForColumns words a → AskForColumns words b → a ≡ b
-asked_once [] a b h k = h ∙ sym k
-asked_once (option ∷ []) a b h k = absurd h
-asked_once (option ∷ value ∷ []) a b (_, _, _, h) (_, _, _, k) = h ∙ sym k
-asked_once (option ∷ value ∷ word ∷ words) a b h k = absurd h
+pub allowed_once : (words : List (String Global)) (a b : ℕ) → AllowsColumns words a → AllowsColumns words b → a ≡ b
+allowed_once [] a b h k = h ∙ sym k
+allowed_once (option ∷ []) a b h k = absurd h
+allowed_once (option ∷ value ∷ []) a b (_, _, _, h) (_, _, _, k) = h ∙ sym k
+allowed_once (option ∷ value ∷ word ∷ words) a b h k = absurd h

@@ -1,5 +1,5 @@
 -- Drawings and faults of inputs.
--- Cited by contracts of public items: AskForColumns, DrawingsOf, IsInputFault.
+-- Cited by contracts of public items: AllowsColumns, DrawingsOf, IsInputFault.
 use Rattle.std.specs.Prelude.{◌≡◌, ◌⊎◌, ◌∷◌, [], ◌<◌, ◌^◌, ℕ, List, codes, get_or, string_bytes}
 use Rattle.std.specs.Global.{Global}
 use Rattle.std.specs.Str.{IsUtf8}
@@ -42,9 +42,9 @@ IsColumnsOption option value most = (option ≡ codes "--columns")
     × IsNumeral 10 (without_leading_plus value) × (most < 2 ^ 64)
     × (most ≡ digits_value 10 (without_leading_plus value))
 
--- the words of a command line that ask for at most `most` columns: none for 500, or the option
-abbrev pub AskForColumns : List (String Global) → (most : ℕ) → Type 0
-AskForColumns [] most = most ≡ 500
-AskForColumns (option ∷ value ∷ []) most =
+-- the command line allows at most `most` columns: 500 without words, else those of the option
+abbrev pub AllowsColumns : List (String Global) → (most : ℕ) → Type 0
+AllowsColumns [] most = most ≡ 500
+AllowsColumns (option ∷ value ∷ []) most =
     IsColumnsOption (string_bytes option) (string_bytes value) most
-AskForColumns words most = ⊥
+AllowsColumns words most = ⊥

@@ -8,7 +8,7 @@ ghost use Rattle.jj_log.specs.InputLines.{AreCommitsOf, DrawsInput};
 ghost use Rattle.jj_log.specs.Labels.{name_of};
 ghost use Rattle.jj_log.specs.LogDrawings.{IsLogError};
 ghost use Rattle.jj_log.specs.Reports.{IsFaultAt, report_text, status_of};
-ghost use Rattle.jj_log.specs.Runs.{AskForColumns, DrawingsOf, IsColumnsOption, IsInputFault};
+ghost use Rattle.jj_log.specs.Runs.{AllowsColumns, DrawingsOf, IsColumnsOption, IsInputFault};
 ghost use Rattle.jj_log.specs.declared.fault.Fault.{Fault};
 
 use crate::commits::Commit;
@@ -142,9 +142,9 @@ pub fn start<R: Source, W: Sink, E: Sink>(
     writer: &mut W,
     errors: &mut E,
 ) -> u8
-    // Where the arguments ask for columns, the filter was run with them; status and line are those
+    // If the arguments allow a number of columns, the filter ran with it; status and line are those
     // of how the run ended.
-    ensures run { (most : ℕ) → AskForColumns words.now most
+    ensures run { (most : ℕ) → AllowsColumns words.now most
         → (ended : Result (Unit {0}) (Failure Fault))
         × EndsBy (DrawingsOf most) (IsInputFault most)
         (streams (R.remaining reader.old) (W.contents writer.old))
@@ -155,7 +155,7 @@ pub fn start<R: Source, W: Sink, E: Sink>(
         × Reports (E.contents errors.old) (E.contents errors.new) (E.has_failed errors.new)
         (report_text ended) }
     // With other arguments nothing is read.
-    ensures other { ((most : ℕ) → ¬ (AskForColumns words.now most))
+    ensures other { ((most : ℕ) → ¬ (AllowsColumns words.now most))
         → (R.remaining reader.new ≡ R.remaining reader.old)
         × ((result ≡ 0) ⊎ (result ≡ 2)) }
 {
@@ -169,16 +169,16 @@ pub fn start<R: Source, W: Sink, E: Sink>(
 
 /// Returns whether the program reads commits if it is called with these arguments.
 pub fn reads(words: &[String]) -> bool
-    ensures { MatchBool result ((most : ℕ) × AskForColumns words.now most)
-        ((most : ℕ) → ¬ (AskForColumns words.now most)) }
+    ensures { MatchBool result ((most : ℕ) × AllowsColumns words.now most)
+        ((most : ℕ) → ¬ (AllowsColumns words.now most)) }
 {
     columns_of(words).is_some()
 }
 
-// Returns the most columns that the words ask for.
+// Returns the greatest number of columns that the command line allows.
 fn columns_of(words: &[String]) -> Option<usize>
-    ensures { MatchOption result ((most : ℕ) → ¬ (AskForColumns words.now most))
-        (AskForColumns words.now) }
+    ensures { MatchOption result ((most : ℕ) → ¬ (AllowsColumns words.now most))
+        (AllowsColumns words.now) }
 {
     match words {
         [] => Some(DEFAULT_COLUMNS),
