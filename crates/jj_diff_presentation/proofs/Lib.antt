@@ -11,3 +11,6 @@ pub mod Reading
 pub mod Headers
 pub mod RoundTrip
 pub mod Words
+pub mod Names
+pub mod Excerpts
+pub mod WordHunks

@@ -2,7 +2,7 @@
 use Rattle.std.proofs.Common.{◌≡◌, ℕ, ◌+◌, ◌-◌, ◌^◌, ◌<◌, ◌≤◌, true, false, cond, ◌||◌, ◌==◌, nat_lt, List, [], ◌∷◌, ◌++◌, length, drop, fold, Ok, Err, codes, refl, sym, ap, ◌∙◌, subst, arith, le-ltb, ne_eqb, true≢false, append_assoc, append-nil, inl, inr}
 use Rattle.std.proofs.lemmas.Bool.{cases_Bool, cases_eq, and_parts}
 use Rattle.std.proofs.lemmas.List.{length-drop, length-take-le, drop-drop}
-use Rattle.std.proofs.lemmas.List.Folds.{concat-append, drop_split, list_any-append}
+use Rattle.std.proofs.lemmas.List.Folds.{concat-append, drop_split}
 use Rattle.std.proofs.lemmas.List.Elements.{All-nil, All-cons}
 use Rattle.std.specs.Prelude.{All}
 use Rattle.std.specs.List.{concat, slice_range, list_any}
@@ -19,20 +19,14 @@ use Rattle.jj_diff_presentation.specs.declared.unified.hunks.UnifiedDiffHunk.{Un
 use Rattle.jj_diff_presentation.specs.declared.unified.patch.ExpectedInPatch.TheVariants.{LaterHunk}
 use Rattle.jj_diff_presentation.specs.declared.unified.patch.PatchPart.TheVariants.{Names}
 use Rattle.jj_diff_presentation.proofs.Booleans.{cond_true, cond_false}
+use Rattle.jj_diff_presentation.specs.Names.{side_name, tab_after, name_line}
+use Rattle.jj_diff_presentation.proofs.Names.{NoNewline, no_newline_both, name, no_newline_name}
 use Rattle.jj_diff_presentation.proofs.LineLaws.{split-line, split-newline, split-other, split_empty, terminated-push, concat-split}
 use Rattle.jj_diff_presentation.proofs.Applying.{copied_some}
 use Rattle.jj_diff_presentation.proofs.Headers.{header_read, own, first_of_range}
 use Rattle.jj_diff_presentation.proofs.Reading.{IsLine, Each, each_line, each_drop, each_take, are_lines, Reads, NoNote, reads_both, reads_none, reads_along, reads_line, reads_lines, at, at_same, no_note_lines}
 
 -- ---- no LF within a line
-
--- no byte is an LF
-abbrev pub NoNewline : List ℕ → Type 0
-NoNewline text = list_any (λ b. b == 10) text ≡ false
-
-no_newline_both : (x y : List ℕ) → NoNewline x → NoNewline y → NoNewline (x ++ y)
-no_newline_both x y e f =
-    list_any-append (λ b. b == 10) x y ∙ ap (λ c. c || list_any (λ b. b == 10) y) e ∙ f
 
 reads_whole : (x : List ℕ) (s t : Applying) → NoNewline x → with_line s (x ++ 10 ∷ []) ≡ Ok t
     → Reads (x ++ 10 ∷ []) s t
@@ -251,11 +245,18 @@ reads_hunks left right i j o (h ∷ hunks) each_left each_right small p =
 
 -- ---- the names
 
-reads_names : (path left : List ℕ) → NoNewline path
+reads_name : (first side path : List ℕ) (s t : Applying) → NoNewline first → NoNewline side
+    → with_line s ((first ++ name side path) ++ 10 ∷ []) ≡ Ok t
+    → Reads (name_line first side path) s t
+reads_name first side path s t plain plain_side step =
+    subst (λ x. Reads x s t)
+    (ap (λ x. x ++ 10 ∷ []) (sym (append_assoc first (side_name side path) (tab_after path))))
+    (reads_whole (first ++ name side path) s t
+    (no_newline_both first (name side path) plain (no_newline_name side path plain_side)) step)
+
+reads_names : (path left : List ℕ)
     → Reads (names_text path) (start left) (at 0 (split_lines left) [] 0 0)
-reads_names path left none =
-    let a : List ℕ = codes "--- a/" ++ path in
-    let b : List ℕ = codes "+++ b/" ++ path in
+reads_names path left =
     let named : Applying = record {
       part = Names;
       rest = split_lines left;
@@ -264,17 +265,12 @@ reads_names path left none =
       left = 0;
       right = 0;
     } in
-    let whole : (a ++ 10 ∷ []) ++ (b ++ 10 ∷ []) ≡ names_text path
-    = append_assoc a (10 ∷ []) (b ++ 10 ∷ [])
-    ∙ ap (λ x. a ++ 10 ∷ x) (append_assoc (codes "+++ b/") path (10 ∷ []))
-    ∙ sym (append_assoc a (codes "\n+++ b/") (path ++ 10 ∷ []))
-    ∙ sym (append_assoc (a ++ codes "\n+++ b/") path (10 ∷ [])) in
-    subst (λ x. Reads x (start left) (at 0 (split_lines left) [] 0 0)) whole
-    (reads_both (a ++ 10 ∷ []) (b ++ 10 ∷ []) (start left) named
+    reads_both (name_line (codes "--- ") (codes "a/") path)
+    (name_line (codes "+++ ") (codes "b/") path) (start left) named
     (at 0 (split_lines left) [] 0 0) (λ rest e. refl)
-    (reads_whole a (start left) named (no_newline_both (codes "--- a/") path refl none) refl)
-    (reads_whole b named (at 0 (split_lines left) [] 0 0)
-    (no_newline_both (codes "+++ b/") path refl none) refl))
+    (reads_name (codes "--- ") (codes "a/") path (start left) named refl refl refl)
+    (reads_name (codes "+++ ") (codes "b/") path named (at 0 (split_lines left) [] 0 0) refl refl
+    refl)
 
 -- ---- the law
 
@@ -285,13 +281,13 @@ finished_text left text p rest o r =
     (ap (λ x. fold run_line (Ok (start left)) (patch_lines 1 (split_lines x)))
     (sym (append-nil text)) ∙ r.run 1 [] refl)
 
-pub round_trip : (path left right : List ℕ) (hunks : List UnifiedDiffHunk) → NoNewline path
+pub round_trip : (path left right : List ℕ) (hunks : List UnifiedDiffHunk)
     → IsSmall (split_lines left) (split_lines right)
     → IsPatch (split_lines left) (split_lines right) hunks
     → applied left (diff_text path hunks) ≡ Ok right
-round_trip path left right [] none small p =
+round_trip path left right [] small p =
     ap (λ x. Ok (concat x)) p ∙ ap (λ x. Ok x) (concat-split right)
-round_trip path left right (h ∷ hunks) none small p =
+round_trip path left right (h ∷ hunks) small p =
     let s : Applying = at 0 (split_lines left) [] 0 0 in
     let end : Finishes (hunks_text (h ∷ hunks)) s (concat (split_lines right))
     = reads_hunks (split_lines left) (split_lines right) 0 0 [] (h ∷ hunks) (each_line left)
@@ -299,7 +295,7 @@ round_trip path left right (h ∷ hunks) none small p =
     finished_text left (names_text path ++ hunks_text (h ∷ hunks)) end.position end.rest end.output
     (reads_both (names_text path) (hunks_text (h ∷ hunks)) (start left) s
     (at end.position end.rest end.output 0 0) (no_note_hunks (h ∷ hunks))
-    (reads_names path left none) end.reads)
+    (reads_names path left) end.reads)
     ∙ ap (λ x. Ok x) (end.whole ∙ concat-split right)
 
 -- ---- what the code needs of a patch

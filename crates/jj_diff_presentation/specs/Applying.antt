@@ -1,16 +1,20 @@
 -- The application of a unified diff: the result, or the first fault.
--- Cited by contracts of public items: Gives, applied.
-use Rattle.std.specs.Prelude.{◌≡◌, ℕ, ◌+◌, ◌-◌, ◌*◌, ◌==◌, ◌&&◌, ◌||◌, Bool, nat_eq, nat_lt, if◌then◌else◌, List, [], ◌∷◌, ◌++◌, length, take, drop, codes, Option, Some, None, Result, Ok, Err}
+-- Cited by contracts of public items: Gives, QuotesLine, applied.
+use Rattle.std.specs.Prelude.{◌≡◌, ℕ, ◌+◌, ◌-◌, ◌*◌, ◌==◌, ◌&&◌, ◌||◌, Bool, nat_eq, nat_lt, if◌then◌else◌, List, [], ◌∷◌, ◌++◌, length, take, drop, codes, Option, Some, None, Result, Ok, Err, string_bytes}
+use Rattle.std.specs.Option.{option_map}
 use Rattle.std.specs.Char.{is_ascii_digit}
 use Rattle.std.specs.List.{prefix_len, starts_with, concat, fold}
 use Rattle.std.specs.Str.{bytes_eq}
 use Rattle.std.proofs.Common.{Vec, Global}
-use Rattle.jj_diff_presentation.specs.Lines.{split_lines}
+use Rattle.jj_excerpts.specs.Excerpts.{excerpt_of}
+use Rattle.jj_diff_presentation.specs.Lines.{split_lines, is_terminated}
 use Rattle.jj_diff_presentation.specs.declared.unified.patch.ExpectedInPatch.{ExpectedInPatch}
 use Rattle.jj_diff_presentation.specs.declared.unified.patch.ExpectedInPatch.TheVariants.{LeftName, RightName, HunkHeader, LaterHunk, HunkLine, LeftLine}
 use Rattle.jj_diff_presentation.specs.declared.unified.patch.PatchFault.{PatchFault}
-use Rattle.jj_diff_presentation.specs.declared.unified.patch.ApplyError.{ApplyError}
-use Rattle.jj_diff_presentation.specs.declared.unified.patch.ApplyError.TheVariants.{Memory, Fault}
+use Rattle.jj_diff_presentation.specs.declared.unified.patch.PatchError.{PatchError}
+use Rattle.jj_diff_presentation.specs.declared.unified.patch.PatchError.TheVariants as errors
+use Rattle.jj_diff_presentation.specs.declared.unified.application.ApplyError.{ApplyError}
+use Rattle.jj_diff_presentation.specs.declared.unified.application.ApplyError.TheVariants.{Memory, Fault}
 use Rattle.jj_diff_presentation.specs.declared.unified.patch.PatchPart.{PatchPart}
 use Rattle.jj_diff_presentation.specs.declared.unified.patch.PatchPart.TheVariants.{Preamble, Names, Hunks}
 
@@ -219,9 +223,37 @@ applied left patch =
 abbrev pub Gives : Result (Vec ℕ Global) ApplyError → Result (List ℕ) PatchFault → Type 0
 Gives (Ok bytes) r = r ≡ Ok bytes.items
 Gives (Err (Memory e)) r = Unit {0}
-Gives (Err (Fault f)) r = r ≡ Err f
+Gives (Err (Fault f found)) r = r ≡ Err f
+
+-- the line without its LF
+abbrev pub without_newline : List ℕ → List ℕ
+without_newline line = if is_terminated line then take (length line - 1) line else line
+
+-- an excerpt of the first line without its LF, if there is a line
+abbrev pub first_excerpt : List (List ℕ) → Option (List ℕ)
+first_excerpt [] = None
+first_excerpt (line ∷ lines) = Some (excerpt_of (without_newline line))
+
+-- an error that names line n has an excerpt of that line, if there is one
+abbrev pub QuotesLine : List (List ℕ) → Result (Vec ℕ Global) ApplyError → Type 0
+QuotesLine lines (Ok bytes) = Unit {0}
+QuotesLine lines (Err (Memory e)) = Unit {0}
+QuotesLine lines (Err (Fault f found)) =
+    option_map string_bytes found ≡ first_excerpt (drop (f.line - 1) lines)
 
 -- Machinery of private functions.
+
+-- as Gives
+abbrev pub PatchGives : Result (Vec ℕ Global) PatchError → Result (List ℕ) PatchFault → Type 0
+PatchGives (Ok bytes) r = r ≡ Ok bytes.items
+PatchGives (Err (errors.Memory e)) r = Unit {0}
+PatchGives (Err (errors.Fault f)) r = r ≡ Err f
+
+-- the error is this fault with an excerpt of its line, or a failed allocation
+abbrev pub IsFaultIn : List (List ℕ) → PatchFault → ApplyError → Type 0
+IsFaultIn lines fault (Memory e) = Unit {0}
+IsFaultIn lines fault (Fault f found) = (f ≡ fault)
+    × (option_map string_bytes found ≡ first_excerpt (drop (fault.line - 1) lines))
 
 -- the state after a step, unless it has a fault
 abbrev pub outcome : Applying → Option ExpectedInPatch → Result Applying ExpectedInPatch
@@ -229,7 +261,7 @@ outcome s None = Ok s
 outcome s (Some e) = Err e
 
 -- the state and the number after the last line, or the first fault
-abbrev pub RunGives : Result ℕ ApplyError → Result Applying PatchFault → Applying → ℕ → Type 0
+abbrev pub RunGives : Result ℕ PatchError → Result Applying PatchFault → Applying → ℕ → Type 0
 RunGives (Ok n) r s m = (r ≡ Ok s) × (n ≡ m)
-RunGives (Err (Memory e)) r s m = Unit {0}
-RunGives (Err (Fault f)) r s m = r ≡ Err f
+RunGives (Err (errors.Memory e)) r s m = Unit {0}
+RunGives (Err (errors.Fault f)) r s m = r ≡ Err f

@@ -2,6 +2,7 @@
 pub mod Lines
 pub mod Scripts
 pub mod Hunks
+pub mod Names
 pub mod PatchText
 pub mod Applying
 pub mod Views

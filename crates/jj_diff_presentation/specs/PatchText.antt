@@ -4,6 +4,7 @@ use Rattle.std.specs.Prelude.{ℕ, ◌+◌, ◌-◌, ◌==◌, if◌then◌else�
 use Rattle.std.specs.Fmt.{decimal}
 use Rattle.std.specs.declared.ops.Range.{Range}
 use Rattle.jj_diff_presentation.specs.Lines.{is_terminated}
+use Rattle.jj_diff_presentation.specs.Names.{name_line}
 use Rattle.jj_diff_presentation.specs.declared.unified.script.DiffLine.{DiffLine}
 use Rattle.jj_diff_presentation.specs.declared.unified.script.DiffLineType.{DiffLineType}
 use Rattle.jj_diff_presentation.specs.declared.unified.script.DiffLineType.TheVariants.{Context, Removed, Added}
@@ -43,7 +44,8 @@ hunks_text (h ∷ hs) =
 
 -- the two lines that name the file
 abbrev pub names_text : List ℕ → List ℕ
-names_text path = codes "--- a/" ++ path ++ codes "\n+++ b/" ++ path ++ 10 ∷ []
+names_text path =
+    name_line (codes "--- ") (codes "a/") path ++ name_line (codes "+++ ") (codes "b/") path
 
 -- nothing if there is no hunk
 abbrev pub diff_text : List ℕ → List UnifiedDiffHunk → List ℕ

@@ -1,6 +1,10 @@
 -- Differences of words.
--- Cited by contracts of public items: left_text, right_text, IsToken, tokens_text.
-use Rattle.std.specs.Prelude.{◌≡◌, ℕ, List, [], ◌∷◌, ◌++◌, codes}
+-- Cited by contracts of public items: left_text, right_text, IsToken, tokens_text, IsWordDiff.
+use Rattle.std.specs.Prelude.{◌≡◌, ℕ, List, [], ◌∷◌, ◌++◌, codes, All}
+use Rattle.std.specs.List.{concat, AllZip}
+use Rattle.jj_diff_presentation.specs.Scripts.{left_lines, right_lines}
+use Rattle.jj_diff_presentation.specs.PatchText.{header_text}
+use Rattle.jj_diff_presentation.specs.declared.unified.hunks.UnifiedDiffHunk.{UnifiedDiffHunk}
 use Rattle.jj_diff_presentation.specs.declared.unified.words.DiffToken.{DiffToken}
 use Rattle.jj_diff_presentation.specs.declared.unified.words.DiffTokenType.{DiffTokenType}
 use Rattle.jj_diff_presentation.specs.declared.unified.words.DiffTokenType.TheVariants.{Matching, Different}
@@ -33,3 +37,23 @@ token_text Different left right =
 abbrev pub tokens_text : List DiffToken → List ℕ
 tokens_text [] = []
 tokens_text (t ∷ ts) = token_text t.token_type t.left.now t.right.now ++ tokens_text ts
+
+-- the tokens of a hunk: without the additions they are its left lines, without the removals its
+-- right ones, and the parts of a token that matches are equal
+pub record AreWordsOf (hunk : UnifiedDiffHunk) (tokens : List DiffToken) : Type 0 where
+  pub left : left_text tokens ≡ concat (left_lines hunk.lines.items)
+  pub right : right_text tokens ≡ concat (right_lines hunk.lines.items)
+  pub matching : All IsToken tokens
+
+-- the header of the hunk and its tokens
+pub record IsWordHunk (hunk : UnifiedDiffHunk) (text : List ℕ) : Type 0 where
+  pub tokens : List DiffToken
+  pub words : AreWordsOf hunk tokens
+  pub bytes : text
+      ≡ header_text hunk.left_line_range hunk.right_line_range ++ tokens_text tokens
+
+-- the hunks one after the other
+pub record IsWordDiff (hunks : List UnifiedDiffHunk) (text : List ℕ) : Type 0 where
+  pub parts : List (List ℕ)
+  pub each : AllZip IsWordHunk hunks parts
+  pub bytes : text ≡ concat parts

@@ -2,8 +2,8 @@
 use Rattle.std.proofs.Common.{◌≡◌, ℕ, List, Result, Ok, Err, Vec, Global, ap, ◌∙◌}
 use Rattle.std.specs.Prelude.{IfOk}
 use Rattle.jj_diff_presentation.specs.Applying.{applied, Gives}
-use Rattle.jj_diff_presentation.specs.declared.unified.patch.ApplyError.{ApplyError}
-use Rattle.jj_diff_presentation.specs.declared.unified.patch.ApplyError.TheVariants.{Memory, Fault}
+use Rattle.jj_diff_presentation.specs.declared.unified.application.ApplyError.{ApplyError}
+use Rattle.jj_diff_presentation.specs.declared.unified.application.ApplyError.TheVariants.{Memory, Fault}
 use Rattle.jj_diff_presentation.specs.declared.unified.patch.PatchFault.{PatchFault}
 use Rattle.jj_diff_presentation_tests.specs.Outcomes.{IsOutOfMemory}
 
@@ -16,7 +16,7 @@ memory_from : (r : Result (Vec ℕ Global) ApplyError) (x : Result (List ℕ) Pa
     (right : List ℕ) → Gives r x → x ≡ Ok right → IsOutOfMemory r
 memory_from (Ok bytes) x right g e = tt
 memory_from (Err (Memory d)) x right g e = tt
-memory_from (Err (Fault f)) x right g e = cc
+memory_from (Err (Fault f found)) x right g e = cc
 
 pub same_bytes : (r : Result (Vec ℕ Global) ApplyError) (left patch text right : List ℕ)
     → Gives r (applied left patch) → patch ≡ text → applied left text ≡ Ok right

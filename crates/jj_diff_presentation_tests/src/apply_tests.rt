@@ -57,7 +57,7 @@ fn git_diff(rt: HostRuntime) -> Result<(), Fail> {
 
 fn fault(alloc: Global, left: &str, patch: &str) -> Option<PatchFault> {
     match apply(alloc, left.as_bytes(), patch.as_bytes()) {
-        Err(ApplyError::Fault(fault)) => Some(fault),
+        Err(ApplyError::Fault(fault, _)) => Some(fault),
         _ => None,
     }
 }
@@ -115,14 +115,22 @@ fn errors(rt: HostRuntime) -> Result<(), Fail> {
 fn error_texts(rt: HostRuntime) -> Result<(), Fail> {
     let alloc = rt.alloc();
     let name = show(alloc, "a\n", "--- a\n")?;
-    let expected = "!line 2 of the patch: expected `+++ ` and the name of the new version";
+    let expected =
+        "!line 2 of the patch: expected `+++ ` and the name of the new version, found the end";
     assert_eq!(rt; name.as_str(), expected);
     let header = show(alloc, "a\n", "--- a\n+++ b\n@@\n")?;
-    let expected =
-        "!line 3 of the patch: expected a hunk's header `@@ -START,COUNT +START,COUNT @@`";
+    let expected = "!line 3 of the patch: expected a hunk's header `@@ -START,COUNT +START,COUNT \
+        @@`, found \"@@\"";
     assert_eq!(rt; header.as_str(), expected);
     let line = show(alloc, "a\n", "--- a\n+++ b\n@@ -1 +1 @@\n-b\n+a\n")?;
-    let expected = "!line 4 of the patch: expected the next line of the file after ` ` or `-`";
+    let expected = "!line 4 of the patch: expected the next line of the file after ` ` or `-`, \
+        found \"-b\"";
+    assert_eq!(rt; line.as_str(), expected);
+    let long =
+        "--- a\n+++ b\n@@ -1 +1 @@\n-0123456789012345678901234567890123456789012345678\t901234567890\n";
+    let line = show(alloc, "a\n", long)?;
+    let expected = "!line 4 of the patch: expected the next line of the file after ` ` or `-`, \
+        found \"-0123456789012345678901234567890123456789012345678\\t901234567\"...";
     assert_eq!(rt; line.as_str(), expected);
     Ok(())
 }

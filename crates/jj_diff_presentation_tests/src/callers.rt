@@ -6,10 +6,11 @@ use jj_diff_presentation::unified::{ApplyError, apply, write_unified_diff};
 use std::alloc::Global;
 
 /// Writes the unified diff of two versions and applies it to the first. Returns the second version,
-/// with any number of context lines, unless memory runs out.
+/// with any path and any number of context lines, unless memory runs out.
 #[tactic(auto, using(crate::proofs::Outcomes::outcome_steps))]
 pub fn round_trip(
     alloc: Global,
+    path: &[u8],
     left: &[u8],
     right: &[u8],
     context: usize,
@@ -17,7 +18,7 @@ pub fn round_trip(
     ensures same { IfOk result (λ bytes. bytes.items ≡ right.now) }
     ensures memory { IsOutOfMemory result }
 {
-    let text = match write_unified_diff(alloc, b"file", left, right, context) {
+    let text = match write_unified_diff(alloc, path, left, right, context) {
         Ok(text) => text,
         Err(error) => return Err(ApplyError::Memory(error)),
     };

@@ -4,3 +4,5 @@
 #[cfg(test)]
 mod apply_tests;
 pub mod callers;
+#[cfg(test)]
+mod render_tests;

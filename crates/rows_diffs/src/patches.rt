@@ -1,9 +1,9 @@
 //! Requests on unified diffs and differences of words.
 use jj_diff_presentation::unified::{
-    ApplyError, apply, word_diff, write_unified_diff, write_word_diff,
+    ApplyError, apply, word_diff, write_unified_diff, write_word_diff, write_word_diff_hunks,
 };
 use rows::request::Request;
-use rows::row_error::{RowError, needs};
+use rows::row_error::RowError;
 use rows::values::Values;
 use std::alloc::Global;
 
@@ -12,7 +12,6 @@ fn unified(alloc: Global, request: &Request, values: &mut Values) -> Result<(), 
     let fields = request.group(0);
     let (left, right) = (fields.bytes(2), fields.bytes(3));
     let path = fields.bytes(1);
-    needs(!path.contains(&b'\n'), "a path without LF")?;
     let text = write_unified_diff(alloc, path, left, right, fields.index(0))?;
     values.bytes(&text);
     Ok(())
@@ -24,9 +23,9 @@ fn apply_patch(alloc: Global, request: &Request, values: &mut Values) -> Result<
     match apply(alloc, fields.bytes(0), fields.bytes(1)) {
         Ok(bytes) => values.bytes(&bytes),
         Err(ApplyError::Memory(_)) => return Err(RowError::Memory),
-        Err(ApplyError::Fault(fault)) => {
+        Err(error) => {
             values.word("error");
-            values.display(&fault);
+            values.display(&error);
         }
     }
     Ok(())
@@ -40,12 +39,21 @@ fn words(alloc: Global, request: &Request, values: &mut Values) -> Result<(), Ro
     Ok(())
 }
 
+// `word-diff-hunks CONTEXT LEFT RIGHT`: the hunks of both versions with marks.
+fn word_hunks(alloc: Global, request: &Request, values: &mut Values) -> Result<(), RowError> {
+    let fields = request.group(0);
+    let (left, right) = (fields.bytes(1), fields.bytes(2));
+    values.bytes(&write_word_diff_hunks(alloc, left, right, fields.index(0))?);
+    Ok(())
+}
+
 /// Runs the request of this name. Returns `false` if there is none.
 pub fn call(alloc: Global, name: &str, request: &Request, values: &mut Values) -> bool {
     let called = match name {
         "unified" => unified(alloc, request, values),
         "apply" => apply_patch(alloc, request, values),
         "word-diff" => words(alloc, request, values),
+        "word-diff-hunks" => word_hunks(alloc, request, values),
         _ => return false,
     };
     values.record(called);

@@ -1,7 +1,7 @@
 //! Application of unified diffs, at the line numbers that they state.
 ghost use Rattle.std.specs.Prelude.{◌≡◌, ℕ, ◌+◌, ◌-◌, ◌^◌, ◌<◌, ◌≤◌, ◌∷◌, [], length, take, drop, IfOk, OnOk, IsTrue, IsFalse, Some, None};
 ghost use Rattle.jj_diff_presentation.specs.Lines.{split_lines};
-ghost use Rattle.jj_diff_presentation.specs.Applying.{is_note, patch_lines, copied, with_header, with_left, with_right, with_hunk_line, with_line, then_right, missing, finished_unless, run, applied, Gives, outcome, RunGives};
+ghost use Rattle.jj_diff_presentation.specs.Applying.{is_note, patch_lines, copied, with_header, with_left, with_right, with_hunk_line, with_line, then_right, missing, finished_unless, run, applied, outcome, PatchGives, RunGives};
 ghost use Rattle.jj_diff_presentation.specs.Views.{header_view, state_view, IsBounded};
 
 use super::header::{HunkHeader, parse_header};
@@ -35,9 +35,9 @@ pub struct PatchFault {
     pub expected: ExpectedInPatch,
 }
 
-/// Why a patch was not applied.
-#[derive(Debug, Drop)]
-pub enum ApplyError {
+// Why a patch was not applied.
+#[derive(Drop)]
+pub(super) enum PatchError {
     Memory(AllocError),
     Fault(PatchFault),
 }
@@ -69,17 +69,6 @@ impl fmt::Display for PatchFault {
 }
 
 impl Error for PatchFault {}
-
-impl fmt::Display for ApplyError {
-    fn fmt<W: fmt::Write>(&self, f: &mut fmt::Formatter<W>) -> fmt::Result {
-        match self {
-            ApplyError::Memory(_) => f.write_str("out of memory"),
-            ApplyError::Fault(fault) => fault.fmt(f),
-        }
-    }
-}
-
-impl Error for ApplyError {}
 
 #[derive(Copy, Clone, Debug, PartialEq, Eq, Drop)]
 enum PatchPart {
@@ -301,7 +290,7 @@ fn split_patch_line(text: &[u8]) -> PatchLine
 
 // Applies the lines of a patch. Returns the number of the line after the last one.
 #[tactic(auto, using(crate::proofs::Applying::run_steps))]
-fn push_lines(state: &mut PatchState, patch: &[u8]) -> Result<usize, ApplyError>
+fn push_lines(state: &mut PatchState, patch: &[u8]) -> Result<usize, PatchError>
     requires { IsBounded state.old }
     ensures { RunGives result (run (state_view state.old) (patch_lines 1 (split_lines patch.now)))
         (state_view state.new) (length (split_lines patch.now) + 1) }
@@ -313,12 +302,12 @@ fn push_lines(state: &mut PatchState, patch: &[u8]) -> Result<usize, ApplyError>
         match push_line(state, next.line) {
             Ok(None) => {}
             Ok(Some(expected)) => {
-                return Err(ApplyError::Fault(PatchFault {
+                return Err(PatchError::Fault(PatchFault {
                     line: number,
                     expected,
                 }));
             }
-            Err(error) => return Err(ApplyError::Memory(error)),
+            Err(error) => return Err(PatchError::Memory(error)),
         }
         rest = next.rest;
         number += next.count;
@@ -346,11 +335,9 @@ fn missing_at_end(state: &PatchState, number: usize) -> Option<ExpectedInPatch>
     }
 }
 
-/// Applies a unified diff of one file, as Git and GNU diff write it, to the file's content, at the
-/// line numbers that it states. Lines before `--- ` are skipped, names are not looked at, and an
-/// empty patch changes nothing. Linear.
-pub fn apply(alloc: Global, left: &[u8], patch: &[u8]) -> Result<Vec<u8>, ApplyError>
-    ensures { Gives result (applied left.now patch.now) }
+// Applies a unified diff of one file at the line numbers that it states.
+pub(super) fn apply_patch(alloc: Global, left: &[u8], patch: &[u8]) -> Result<Vec<u8>, PatchError>
+    ensures { PatchGives result (applied left.now patch.now) }
 {
     let mut state = PatchState {
         part: PatchPart::Preamble,
@@ -365,7 +352,7 @@ pub fn apply(alloc: Global, left: &[u8], patch: &[u8]) -> Result<Vec<u8>, ApplyE
         Err(error) => return Err(error),
     };
     match missing_at_end(&state, number) {
-        Some(expected) => Err(ApplyError::Fault(PatchFault {
+        Some(expected) => Err(PatchError::Fault(PatchFault {
             line: number,
             expected,
         })),
@@ -374,7 +361,7 @@ pub fn apply(alloc: Global, left: &[u8], patch: &[u8]) -> Result<Vec<u8>, ApplyE
             let mut bytes = output;
             match bytes.extend_from_slice(rest) {
                 Ok(()) => Ok(bytes),
-                Err(error) => Err(ApplyError::Memory(error)),
+                Err(error) => Err(PatchError::Memory(error)),
             }
         }
     }

@@ -1,6 +1,5 @@
 //! Unified diffs, as Git and GNU diff write them.
-ghost use Rattle.std.specs.Prelude.{◌≡◌, ◌==◌, ℕ, ◌+◌, ◌-◌, ◌^◌, ◌<◌, ◌≤◌, ◌++◌, List, length, All, IfOk, OnOk, Ok, false, []};
-ghost use Rattle.std.specs.List.{list_any};
+ghost use Rattle.std.specs.Prelude.{◌≡◌, ℕ, ◌+◌, ◌-◌, ◌^◌, ◌<◌, ◌≤◌, ◌++◌, List, length, All, IfOk, OnOk, Ok, []};
 ghost use Rattle.jj_diff_presentation.specs.PatchText.{type_byte, line_text, lines_text, range_text, header_text, hunks_text, names_text, diff_text};
 ghost use Rattle.jj_diff_presentation.specs.Hunks.{HasRanges, IsPatch, HasContext};
 ghost use Rattle.jj_diff_presentation.specs.Lines.{split_lines};
@@ -8,6 +7,7 @@ ghost use Rattle.jj_diff_presentation.specs.Applying.{applied};
 ghost use Rattle.jj_diff_presentation.specs.declared.unified.hunks.UnifiedDiffHunk.{UnifiedDiffHunk};
 
 use super::hunks::{UnifiedDiffHunk, unified_diff_hunks};
+use super::names::push_name_line;
 use super::script::{DiffLine, DiffLineType};
 use crate::lines::is_terminated;
 use itoa::Buffer;
@@ -61,7 +61,7 @@ fn push_range(text: &mut Vec<u8>, start: usize, len: usize) -> Result<(), AllocE
     text.extend_from_slice(buffer.format(len).as_bytes())
 }
 
-fn push_header(text: &mut Vec<u8>, hunk: &UnifiedDiffHunk) -> Result<(), AllocError>
+pub(super) fn push_header(text: &mut Vec<u8>, hunk: &UnifiedDiffHunk) -> Result<(), AllocError>
     requires { HasRanges hunk.now }
     ensures { OnOk result (text.new.items ≡ text.old.items
         ++ header_text hunk.now.left_line_range hunk.now.right_line_range) }
@@ -90,12 +90,8 @@ fn push_hunks(text: &mut Vec<u8>, hunks: &[UnifiedDiffHunk]) -> Result<(), Alloc
 fn push_names(text: &mut Vec<u8>, path: &[u8]) -> Result<(), AllocError>
     ensures { OnOk result (text.new.items ≡ text.old.items ++ names_text path.now) }
 {
-    text.extend_from_slice(b"--- a/")?;
-    text.extend_from_slice(path)?;
-    text.extend_from_slice(b"\n+++ b/")?;
-    text.extend_from_slice(path)?;
-    text.push(b'\n')?;
-    Ok(())
+    push_name_line(text, b"--- ", b"a/", path)?;
+    push_name_line(text, b"+++ ", b"b/", path)
 }
 
 // Returns the unified diff with these hunks.
@@ -118,8 +114,9 @@ pub(super) fn text_of_hunks(
 }
 
 /// Returns the unified diff of two versions of a file, with `context` lines around each change, as
-/// `git diff` and `diff -u` write it: nothing for equal versions. The path is written as it is, so
-/// it has no LF; Git would quote other control characters.
+/// `git diff` and `diff -u` write it: nothing for equal versions. Like Git, puts a path that has
+/// control characters, quotes, backslashes or bytes beyond ASCII in quotes, and a TAB after a path
+/// that has a space.
 pub fn write_unified_diff(
     alloc: Global,
     path: &[u8],
@@ -127,7 +124,6 @@ pub fn write_unified_diff(
     right: &[u8],
     context: usize,
 ) -> Result<Vec<u8>, AllocError>
-    requires { list_any (λ b. b == 10) path.now ≡ false }
     // It has the hunks of a comparison by lines.
     ensures text { IfOk result (λ text. (hunks : List UnifiedDiffHunk)
         × (text.items ≡ diff_text path.now hunks)

@@ -22,7 +22,7 @@ returns-clause-round_trip c =
     ap (applied c.args.left.now)
     (c.in_ok-text.ensures ∙ ap (diff_text c.args.path.now) c.deref.ensures.value)
     ∙ round_trip c.args.path.now c.args.left.now c.args.right.now c.in_ok-hunks.hunks.items
-    c.requires small c.in_ok-hunks.ensures.patch
+    small c.in_ok-hunks.ensures.patch
 
 pub returns-clause-identity : goal.returns-clause-identity
 returns-clause-identity c = λ e.

@@ -4,7 +4,7 @@ use Rattle.jj_diff_presentation.specs.Applying.{Applying, run, patch_lines}
 use Rattle.jj_diff_presentation.specs.Views.{state_view}
 use Rattle.jj_diff_presentation.specs.declared.unified.patch.PatchPart.TheVariants.{Preamble}
 use Rattle.jj_diff_presentation.proofs.Applying.{applied_whole}
-use Rattle.jj_diff_presentation.proofs.unified.patch.apply.Goals as goal
+use Rattle.jj_diff_presentation.proofs.unified.patch.apply_patch.Goals as goal
 
 pub returns-in-Ok-extend_from_slice : goal.returns-in-Ok-extend_from_slice
 returns-in-Ok-extend_from_slice c =
