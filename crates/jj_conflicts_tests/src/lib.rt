@@ -3,5 +3,6 @@
 
 #[cfg(test)]
 pub mod callers;
+pub mod merges;
 #[cfg(test)]
 mod text_tests;

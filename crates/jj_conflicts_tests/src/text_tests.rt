@@ -3,12 +3,13 @@
 ghost use Rattle.std.specs.Prelude.{length};
 ghost use Rattle.jj_merges.specs.Merge.{IsOdd};
 
+use crate::merges::parse_merged;
 use jj_conflicts::conflicts::{
     ConflictMarkerStyle, choose_materialized_conflict_marker_len, materialize, parse_conflict,
     parse_hunks,
 };
 use jj_merges::conflict_labels::ConflictLabels;
-use jj_merges::merge::Merge;
+use jj_merges::merge::{Merge, SameChange};
 use smallvec::SmallVec;
 use std::alloc::{AllocError, Global};
 use std::test::Fail;
@@ -119,6 +120,73 @@ fn diff_style_with_runs(rt: HostRuntime) -> Result<(), Fail> {
         ++++++++ right\nr\n>>>>>>>> Conflict 1 of 1 ends\n";
     assert_eq!(rt; text.as_slice(), expected.as_bytes());
     assert!(rt; is_same);
+    Ok(())
+}
+
+// Hunks that were merged, rendered in a style and parsed, as Git's style has them; nothing if the
+// merge is clean.
+fn render_merged(
+    alloc: Global,
+    versions: (&str, &str, &str),
+    style: ConflictMarkerStyle,
+) -> Result<Vec<u8>, AllocError> {
+    let (left, base, right) = versions;
+    let labels = labels(alloc)?;
+    let found = parse_merged(
+        alloc,
+        left.as_bytes(),
+        base.as_bytes(),
+        right.as_bytes(),
+        SameChange::Accept,
+        &labels,
+        style,
+    )?;
+    match found {
+        None => Ok(Vec::new(alloc)),
+        Some(both) => {
+            let marker_len = choose_materialized_conflict_marker_len(&both.parsed);
+            let git = ConflictMarkerStyle::Git;
+            materialize(alloc, &both.parsed, &labels, git, marker_len)
+        }
+    }
+}
+
+#[test]
+fn merged(rt: HostRuntime) -> Result<(), Fail> {
+    let alloc = rt.alloc();
+    let rows = [
+        (
+            ("a\nl\nc\n", "a\nb\nc\n", "a\nr\nc\n"),
+            "a\n<<<<<<< left\nl\n||||||| base\nb\n=======\nr\n>>>>>>> right\nc\n",
+        ),
+        (("a\nb\nc\nl\n", "a\nb\nc\n", "r\na\nb\nc\n"), ""),
+        (
+            ("a\nb\nc\nd\n", "a\nb\nc", "a\nb\nc\ne\n"),
+            "a\nb\n<<<<<<< left\nc\nd\n||||||| base (no terminating newline)\nc\n=======\n\
+                c\ne\n>>>>>>> right\n",
+        ),
+        (
+            ("l\nb\nc\n", "a\nb\nc\n", "r\nb\nd\n"),
+            "<<<<<<< left\nl\n||||||| base\na\n=======\nr\n>>>>>>> right\nb\nd\n",
+        ),
+        (
+            ("=======\nb\n", "a\nb\n", "<<<<<<<\nb\n"),
+            "<<<<<<<<< left\n=======\n||||||||| base\na\n=========\n<<<<<<<\n\
+                >>>>>>>>> right\nb\n",
+        ),
+        (("a\nx\n", "a\nb\n", "a\nx\n"), ""),
+    ];
+    let styles = [
+        ConflictMarkerStyle::Diff,
+        ConflictMarkerStyle::Snapshot,
+        ConflictMarkerStyle::Git,
+    ];
+    for (versions, expected) in &rows {
+        for style in &styles {
+            let text = render_merged(alloc, *versions, *style)?;
+            assert_eq!(rt; text.as_slice(), expected.as_bytes(), "{versions:?}");
+        }
+    }
     Ok(())
 }
 
