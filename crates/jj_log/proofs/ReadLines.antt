@@ -14,7 +14,7 @@ use Rattle.jj_log.specs.declared.commits.Commit.{Commit}
 use Rattle.jj_log.specs.Reports.{IsFaultAt}
 use Rattle.jj_log.specs.declared.fault.Fault.{Fault}
 use Rattle.jj_log.specs.declared.fault.LineFault.{LineFault}
-use Rattle.jj_log.specs.InputLines.{AreCommitsOf, HasCommit, Lacks, IsCutAt, IsBadLine, IsCommitLine, IsFaultOf, IsLineFault, IsName, IsParseFault, is_nonempty, parts_of, words_of, one_word, numbered_line, numbered_lines, commit_lines}
+use Rattle.jj_log.specs.InputLines.{AreCommitsOf, EndsInReturn, HasCommit, Lacks, IsCutAt, IsBadLine, IsCommitLine, IsFaultOf, IsLineFault, IsName, IsParseFault, is_nonempty, parts_of, words_of, one_word, numbered_line, numbered_lines, commit_lines}
 
 -- 1. Strings cut at a byte.
 
@@ -60,9 +60,10 @@ next_words text word later cut = ap (filter is_nonempty) (first_part 32 text wor
 pub last_word : (text : List ℕ) → Lacks 32 text → words_of text ≡ one_word text
 last_word text plain = ap (filter is_nonempty) (one_part 32 text plain)
 
-pub commit_line : (line name fields field : List ℕ) (own : String Global) (parents : Vec (String Global) Global) (label : Option (String Global)) → IsCutAt 9 line name fields → IsName name → string_bytes own ≡ name
+pub commit_line : (line name fields field : List ℕ) (own : String Global) (parents : Vec (String Global) Global) (label : Option (String Global)) → (EndsInReturn line → ⊥) → IsCutAt 9 line name fields → IsName name → string_bytes own ≡ name
     → map (λ s. string_bytes s) parents.items ≡ words_of field → MatchOption label ((field ≡ fields) × Lacks 9 fields) (λ l. IsCutAt 9 fields field (string_bytes l)) → IsCommitLine line (record { name = own; parents = parents; label = label })
-commit_line line name fields field own parents label cut good is words labelled = record {
+commit_line line name fields field own parents label unended cut good is words labelled = record {
+  end = unended;
   fields = fields;
   cut = subst (λ n. IsCutAt 9 line n fields) (sym is) cut;
   name = subst IsName (sym is) good;

@@ -8,7 +8,7 @@ use Rattle.jj_log.specs.declared.commits.Commit.{Commit}
 use Rattle.jj_log.specs.Reports.{IsFaultAt}
 use Rattle.jj_log.specs.declared.fault.Fault.{Fault}
 use Rattle.jj_log.specs.declared.fault.LineFault.{LineFault}
-use Rattle.jj_log.specs.declared.fault.LineFault.TheVariants.{MissingParents, BadName}
+use Rattle.jj_log.specs.declared.fault.LineFault.TheVariants.{CarriageReturn, MissingParents, BadName}
 
 -- the byte is not in the string
 abbrev pub Lacks : ℕ → List ℕ → Type 0
@@ -37,8 +37,13 @@ one_word string = filter is_nonempty (string ∷ [])
 abbrev pub IsName : List ℕ → Type 0
 IsName string = (is_nonempty string ≡ true) × Lacks 32 string
 
+-- the last byte of the line is a carriage return
+abbrev pub EndsInReturn : List ℕ → Type 0
+EndsInReturn line = (before : List ℕ) × (line ≡ before ++ 13 ∷ [])
+
 -- a line: name TAB parents, and TAB label if the commit is visible
 pub record IsCommitLine (line : List ℕ) (commit : Commit) : Type 0 where
+  pub end : EndsInReturn line → ⊥
   pub fields : List ℕ
   pub cut : IsCutAt 9 line (string_bytes commit.name) fields
   pub name : IsName (string_bytes commit.name)
@@ -47,8 +52,9 @@ pub record IsCommitLine (line : List ℕ) (commit : Commit) : Type 0 where
   pub label : MatchOption commit.label ((field ≡ fields) × Lacks 9 fields)
       (λ label. IsCutAt 9 fields field (string_bytes label))
 
--- the line has no TAB, or no name before its first TAB
+-- the line ends in a carriage return, has no TAB, or no name before its first TAB
 abbrev pub IsBadLine : List ℕ → LineFault → Type 0
+IsBadLine line CarriageReturn = EndsInReturn line
 IsBadLine line MissingParents = Lacks 9 line
 IsBadLine line BadName = (name fields : List ℕ) × IsCutAt 9 line name fields × (IsName name → ⊥)
 IsBadLine line fault = ⊥

@@ -9,9 +9,11 @@ use Rattle.jj_filter.specs.declared.failure.Failure.{Failure}
 use Rattle.jj_log.specs.declared.fault.Fault.{Fault}
 use Rattle.jj_log.specs.declared.fault.Fault.TheVariants.{NotUtf8, Line}
 use Rattle.jj_log.specs.declared.fault.LineFault.{LineFault}
-use Rattle.jj_log.specs.declared.fault.LineFault.TheVariants.{MissingParents, BadName, RepeatedName, Cycle, TooWide}
+use Rattle.jj_log.specs.declared.fault.LineFault.TheVariants.{CarriageReturn, MissingParents, BadName, RepeatedName, Cycle, TooWide}
 
 abbrev pub line_fault_text : LineFault → List ℕ
+line_fault_text CarriageReturn =
+    codes "ends in a carriage return; the input has CRLF lines"
 line_fault_text MissingParents = codes "no TAB after the name; TABs separate fields"
 line_fault_text BadName = codes "no name, or one with a blank"
 line_fault_text RepeatedName = codes "repeated name"

@@ -13,6 +13,8 @@ use std::alloc::{AllocError, AllocFailed, Global};
 /// An error in a line of the input.
 #[derive(Clone, Copy, Debug, PartialEq, Eq)]
 pub enum LineFault {
+    /// The line ends in a carriage return.
+    CarriageReturn,
     /// The line has no TAB.
     MissingParents,
     /// The name is empty or has a blank.
@@ -55,6 +57,7 @@ impl LineFault {
         ensures { result.now ≡ line_fault_text self }
     {
         match self {
+            LineFault::CarriageReturn => "ends in a carriage return; the input has CRLF lines",
             LineFault::MissingParents => "no TAB after the name; TABs separate fields",
             LineFault::BadName => "no name, or one with a blank",
             LineFault::RepeatedName => "repeated name",

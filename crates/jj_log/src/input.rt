@@ -2,7 +2,7 @@
 ghost use Rattle.std.specs.Prelude.{◌≡◌, ◌++◌, ◌↔◌, List, IfOk, IfErr, OnOk, map, string_bytes, true};
 ghost use Rattle.std.specs.List.{AllZip};
 ghost use Rattle.jj_filter.specs.Runs.{IsInputFailure};
-ghost use Rattle.jj_log.specs.InputLines.{AreCommitsOf, IsCommitLine, IsFaultOf, IsLineFault, IsName, IsParseFault, numbered_line, one_word, words_of};
+ghost use Rattle.jj_log.specs.InputLines.{AreCommitsOf, EndsInReturn, IsCommitLine, IsFaultOf, IsLineFault, IsName, IsParseFault, numbered_line, one_word, words_of};
 ghost use Rattle.jj_log.specs.declared.commits.Commit.{Commit};
 
 use crate::commits::Commit;
@@ -14,6 +14,12 @@ fn is_name(name: &str) -> bool
     ensures { (result ≡ true) ↔ IsName name.now }
 {
     !name.is_empty() && !name.contains(' ')
+}
+
+fn ends_in_return(line: &str) -> bool
+    ensures { (result ≡ true) ↔ EndsInReturn line.now }
+{
+    line.strip_suffix('\r').is_some()
 }
 
 // Appends the name unless it is empty.
@@ -46,6 +52,9 @@ fn parse_line(alloc: Global, number: usize, line: &str) -> Result<Commit, Failur
     ensures commit { IfOk result (IsCommitLine line.now) }
     ensures error { IfErr result (IsInputFailure (IsLineFault number line.now)) }
 {
+    if ends_in_return(line) {
+        return Err(fault_at(alloc, number, LineFault::CarriageReturn, line));
+    }
     let Some((name, fields)) = line.split_once('\t') else {
         return Err(fault_at(alloc, number, LineFault::MissingParents, line));
     };
@@ -86,8 +95,8 @@ fn push_commit(
 }
 
 /// Parses the lines of the input. Returns the commits, the last first, and the number of the line
-/// of each. Skips empty lines. Fails with `Line` at the first line without a TAB or with a bad
-/// name, and with `Memory` if memory runs out.
+/// of each. Skips empty lines. Fails with `Line` at the first line that ends in a carriage return,
+/// has no TAB or has a bad name, and with `Memory` if memory runs out.
 pub fn parse_commits(
     alloc: Global,
     input: &str,
