@@ -160,13 +160,13 @@ mod tests {
     use std::process::Abort;
     use std::test::Fail;
 
-    const HEAD: u64 = 100_000;
+    const HEAD: u64 = 20_000;
 
     const SHAPES: &[Shape] = &[Shape::Chain, Shape::Fan, Shape::Merges];
 
     /// Asserts that an order has all nodes and, but for the fan, each before the next lesser one.
     fn is_whole<R: Abort>(rt: &R, shape: Shape, order: &[u64]) {
-        assert_eq!(rt; order.len(), 100_001);
+        assert_eq!(rt; order.len(), 20_001);
         let mut expected = HEAD;
         for node in order {
             if matches!(shape, Shape::Fan) {
@@ -196,7 +196,7 @@ mod tests {
         for shape in SHAPES {
             let nodes = maximal(alloc, *shape, HEAD).or_else(|_| maximal(alloc, *shape, HEAD))?;
             let expected = if matches!(shape, Shape::Fan) {
-                100_000
+                20_000
             } else {
                 1
             };
