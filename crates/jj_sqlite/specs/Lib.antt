@@ -4,5 +4,6 @@ pub mod Inserts
 pub mod Batches
 pub mod Rows
 pub mod Opening
+pub mod StoreFiles
 pub mod Closing
 pub mod Faults
