@@ -1,0 +1,4 @@
+//! The files of trees in any backend at the paths of a matcher.
+#![tactic(auto)]
+
+pub mod files;
