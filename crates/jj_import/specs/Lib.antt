@@ -1,1 +1,3 @@
 pub mod Imported
+pub mod Stored
+pub mod AppliedChanges

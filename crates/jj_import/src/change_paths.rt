@@ -1,4 +1,7 @@
 //! The paths of a commit's changes.
+ghost use Rattle.std.specs.Prelude.{◌≡◌, IfOk};
+ghost use Rattle.jj_paths.specs.Paths.{components};
+
 use crate::error::ImportError;
 use jj_fast_import::command::Change;
 use jj_paths::repo_path::{InvalidNewRepoPathError, RepoPath, RepoPathBuf, RepoPathTree};
@@ -26,7 +29,9 @@ pub(crate) fn path_of(
     alloc: Global,
     field: &'static str,
     bytes: &[u8],
-) -> Result<RepoPathBuf, ImportError> {
+) -> Result<RepoPathBuf, ImportError>
+    ensures { IfOk result (λ path. path ≡ components bytes.now) }
+{
     let Ok(text) = str::from_utf8(bytes) else {
         return Err(path_error(alloc, field, bytes));
     };
@@ -35,7 +40,8 @@ pub(crate) fn path_of(
             if has_dots(path) {
                 return Err(path_error(alloc, field, bytes));
             }
-            Ok(path.to_owned(alloc)?)
+            let path = path.to_owned(alloc)?;
+            Ok(path)
         }
         Err(InvalidNewRepoPathError::Memory) => Err(ImportError::Memory),
         Err(_) => Err(path_error(alloc, field, bytes)),
@@ -47,7 +53,9 @@ pub(crate) fn file_path_of(
     alloc: Global,
     field: &'static str,
     bytes: &[u8],
-) -> Result<RepoPathBuf, ImportError> {
+) -> Result<RepoPathBuf, ImportError>
+    ensures { IfOk result (λ path. path ≡ components bytes.now) }
+{
     let path = path_of(alloc, field, bytes)?;
     if path.as_path().is_root() {
         return Err(path_error(alloc, field, bytes));

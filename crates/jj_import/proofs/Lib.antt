@@ -1,0 +1,4 @@
+pub mod Extensions
+pub mod MovedFiles
+pub mod AppliedLater
+pub mod AppliedSteps
