@@ -9,7 +9,7 @@ from pathlib import Path
 from crate_list import ROOT
 
 # The name of the program of each crate.
-PROGRAMS = {"jj_core_cli": "jj-core", "jj_filesets_cli": "jj-filesets", "jj_log_cli": "jj-log", "jj_history": "jj-history"}
+PROGRAMS = {"jj_core_cli": "jj-core", "jj_filesets_cli": "jj-filesets", "jj_log_cli": "jj-log", "jj_history_cli": "jj-history"}
 SHARE = ROOT / "share"
 # Where a shell looks for the completions of a program.
 COMPLETIONS = {"bash": "bash-completion/completions/{}", "zsh": "zsh/site-functions/_{}", "fish": "fish/vendor_completions.d/{}.fish"}

@@ -2,8 +2,8 @@
 _jj_filesets() {
     local word=${COMP_WORDS[COMP_CWORD]}
     case $word in
-        -*) mapfile -t COMPREPLY < <(compgen -W '-z --null --skip-invalid --fail-if-none --help --version' -- "$word") ;;
+        -*) mapfile -t COMPREPLY < <(compgen -W '-z --null --skip-invalid --fail-if-none -h --help -V --version' -- "$word") ;;
         *) mapfile -t COMPREPLY < <(compgen -W 'all() none()' -f -- "$word") ;;
     esac
 }
-complete -F _jj_filesets jj-filesets
+complete -o filenames -F _jj_filesets jj-filesets

@@ -6,4 +6,4 @@ _jj_history() {
         2) mapfile -t COMPREPLY < <(compgen -W 'write merge' -- "${COMP_WORDS[COMP_CWORD]}") ;;
     esac
 }
-complete -F _jj_history jj-history
+complete -o filenames -F _jj_history jj-history

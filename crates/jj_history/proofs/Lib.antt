@@ -1,0 +1,2 @@
+mod ContentFailures
+mod OnlyCommits
