@@ -149,6 +149,18 @@ int64_t jj_merge_simplify(const uint8_t *bytes, size_t bytes_len, const size_t *
  * Ownership: reads bytes, ends during the call; frees all that it allocates. Threads: any. */
 int64_t jj_merge_resolve(const uint8_t *bytes, size_t bytes_len, const size_t *ends, size_t ends_len, bool accept);
 
+/* Merges file contents, whose terms are added and removed in turn: by lines, and with `words` the words of lines that conflict. With `accept`,
+ * sides that made the same change resolve to it. Writes the merged contents. Returns their length. Linear but for the comparison of the terms.
+ * Errors: JJ_ENDS, JJ_TERMS, JJ_CONFLICT, JJ_LENGTH, JJ_MEMORY.
+ * Ownership: reads bytes, ends and writes text during the call; frees all that it allocates. Threads: any, if no other uses text meanwhile. */
+int64_t jj_merge_contents(const uint8_t *bytes, size_t bytes_len, const size_t *ends, size_t ends_len, bool accept, bool words, uint8_t *text, size_t text_len);
+
+/* Merges file contents by lines, and writes them with each conflict between markers: in Jujutsu's style, or with `git` in that of diff3. The
+ * markers are longer than any run of their characters at the start of a line. Returns the length. Linear but for the comparison of the terms.
+ * Errors: JJ_ENDS, JJ_TERMS, JJ_LENGTH, JJ_MEMORY.
+ * Ownership: reads bytes, ends and writes text during the call; frees all that it allocates. Threads: any, if no other uses text meanwhile. */
+int64_t jj_merge_materialize(const uint8_t *bytes, size_t bytes_len, const size_t *ends, size_t ends_len, bool accept, bool git, uint8_t *text, size_t text_len);
+
 /* Writes the indices of the terms of a merge of merges, in the order of the flattened merge, in which removed merges are inverted. Terms are
  * numbered through all merges, and `ends` has the index at which those of each merge end. Returns their number, which is the last end.
  * Errors: JJ_ENDS (they descend), JJ_TERMS (an even number of merges, or of terms of one), JJ_LENGTH, JJ_MEMORY.

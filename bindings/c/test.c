@@ -67,6 +67,24 @@ static void known_results(void) {
     EXPECT(jj_graph_heads((size_t[]){0}, 1, (size_t[]){1}, 1, nodes, 1, ITEMS(found)) == JJ_CYCLE);
 }
 
+/* Merges of three texts of lines. After an error the buffer is unchanged. */
+static void texts(void) {
+    static const size_t ends[] = {4, 8, 12};
+    static const char marked[] = "<<<<<<<\n1\n|||||||\n0\n=======\n2\n>>>>>>>\nb\n";
+    uint8_t text[64] = {9};
+    EXPECT(jj_merge_contents(BYTES("1\nb\n0\nb\n2\nb\n"), ITEMS(ends), false, false, ITEMS(text)) == JJ_CONFLICT);
+    EXPECT(jj_merge_contents(BYTES("1\nb\n0\nb\n0\nc\n"), ITEMS(ends), false, false, ITEMS(text)) == JJ_CONFLICT);
+    EXPECT(jj_merge_contents(BYTES("1\nb\n0\nb\n1\nb\n"), ITEMS(ends), true, false, text, 3) == JJ_LENGTH);
+    EXPECT(jj_merge_contents(BYTES("1\nb\n0\nb\n"), ends, 2, true, false, ITEMS(text)) == JJ_TERMS);
+    EXPECT(jj_merge_contents(BYTES("1\nb\n0\nb\n"), ITEMS(ends), true, false, ITEMS(text)) == JJ_ENDS);
+    EXPECT(jj_merge_materialize(BYTES("1\nb\n0\nb\n2\nb\n"), ITEMS(ends), false, true, text, 20) == JJ_LENGTH && text[0] == 9);
+    EXPECT(jj_merge_contents(BYTES("1\nb\n0\nb\n1\nb\n"), ITEMS(ends), true, false, ITEMS(text)) == 4 && !memcmp(text, "1\nb\n", 4));
+    EXPECT(jj_merge_contents(BYTES("1 b\n0 b\n0 c\n"), ITEMS(ends), false, true, ITEMS(text)) == 4 && !memcmp(text, "1 c\n", 4));
+    EXPECT(jj_merge_materialize(BYTES("1\nb\n0\nb\n2\nb\n"), ITEMS(ends), false, true, ITEMS(text)) == sizeof marked - 1);
+    EXPECT(!memcmp(text, marked, sizeof marked - 1));
+    EXPECT(jj_merge_materialize(BYTES("1\nb\n0\nb\n0\nb\n"), ITEMS(ends), false, false, ITEMS(text)) == 4 && !memcmp(text, "1\nb\n", 4));
+}
+
 /* Many questions to one graph. After an error both buffers are unchanged. */
 static void batches(void) {
     static const size_t targets[] = {0, 0, 1, 2}, ends[] = {0, 1, 2, 4}, nodes[] = {1, 2, 3, 1, 0}, sets[] = {2, 2, 5}, one[] = {1, 2}, down[] = {2, 1};
@@ -106,6 +124,7 @@ static void no_items(void) {
     EXPECT(jj_fileset_matches(BYTES("a"), NULL, 0, one, 1, flags, 1) == 1 && !flags[0]);
     EXPECT(jj_walk(NULL, 0, NULL, 0, true, NULL, 0, NULL, 0, NULL, 0) == 0);
     EXPECT(jj_merge_simplify(NULL, 0, NULL, 0, NULL, 0) == JJ_TERMS && jj_merge_simplify(NULL, 0, one, 1, list, 1) == 1);
+    EXPECT(jj_merge_contents(NULL, 0, one, 1, false, false, NULL, 0) == 0 && jj_merge_materialize(NULL, 0, NULL, 0, false, false, NULL, 0) == JJ_TERMS);
     EXPECT(jj_merge_resolve(NULL, 0, one, 1, false) == 0 && jj_merge_flatten(NULL, 0, NULL, 0) == JJ_TERMS);
     EXPECT(jj_graph_order(NULL, 0, NULL, 0, NULL, 0, NULL, 0) == 0 && jj_graph_heads(NULL, 0, one, 1, NULL, 0, NULL, 0) == 0);
     EXPECT(jj_graph_common(NULL, 0, NULL, 0, NULL, 0, NULL, 0, NULL, 0) == 0);
@@ -277,7 +296,7 @@ static int64_t draw_call(struct random *r) {
     bool flag = draw(r, 2), icase = draw(r, 2);
     uint8_t *out = take(r, room * 4);
     size_t *list = take(r, room * sizeof *list);
-    switch (draw(r, 16)) {
+    switch (draw(r, 18)) {
     case 0: return jj_hash(draw_bytes(r, len, digits), len, out, room * 4);
     case 1: return jj_content_hash(draw_bytes(r, len, digits), len, out, room * 4);
     case 2: return jj_content_hash_list(draw_bytes(r, len, digits), len, draw_ends(r, count, len), count, out, room * 4);
@@ -295,7 +314,9 @@ static int64_t draw_call(struct random *r) {
         return jj_walk(draw_bytes(r, other, "aab/"), other, draw_ends(r, parts, other), parts, flag, draw_bytes(r, len, "aab/"), len, draw_ends(r, count, len), count, take(r, room), room);
     }
     case 13: return draw_digest(r, out, room * 4);
-    case 14: return jj_graph_heads(draw_targets(r, len, nodes), len, draw_ends(r, nodes, len), nodes, draw_nodes(r, count, nodes), count, list, room);
+    case 14: return jj_merge_contents(draw_bytes(r, len, "ab \n\n"), len, draw_ends(r, count, len), count, flag, icase, out, room * 4);
+    case 15: return jj_merge_materialize(draw_bytes(r, len, "ab \n\n"), len, draw_ends(r, count, len), count, flag, icase, out, room * 4);
+    case 16: return jj_graph_heads(draw_targets(r, len, nodes), len, draw_ends(r, nodes, len), nodes, draw_nodes(r, count, nodes), count, list, room);
     default:
         return jj_graph_common(draw_targets(r, len, nodes), len, draw_ends(r, nodes, len), nodes, draw_nodes(r, count, nodes), count, draw_nodes(r, other, nodes), other, list, room);
     }
@@ -321,6 +342,7 @@ int main(void) {
     pthread_t threads[THREADS];
     uint64_t sums[THREADS], alone;
     known_results();
+    texts();
     batches();
     no_items();
     digests_in_pieces();

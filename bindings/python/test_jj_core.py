@@ -195,6 +195,29 @@ class Test(unittest.TestCase):
         self.raises("JJ_ENDS", "pairs[0] has 1 sets", jj_core.closest_common_each, [[]], [[[0]]])
         self.refuses("sets[0] must be a list of nodes, not int", jj_core.heads_each, [[]], [0])
 
+    def test_graph_that_is_checked_once(self):
+        graph = jj_core.Graph([[], [0], [0], [1, 2]])
+        self.assertEqual([*graph], [(), (0,), (0,), (1, 2)])
+        self.assertEqual(repr(graph), "Graph of 4 nodes")
+        self.assertEqual(jj_core.heads(graph, [0, 1]), [1])
+        self.assertEqual(jj_core.order(graph, [3]), [3, 2, 1, 0])
+        self.assertEqual(jj_core.closest_common(graph, [1], [2]), [0])
+        self.assertEqual(jj_core.heads_each(graph, [[0], [1, 2]]), [[0], [1, 2]])
+        self.assertEqual(jj_core.closest_common_each(graph, [([1], [2])]), [[0]])
+        self.raises("JJ_NODE", "graph[0][0] is 1;", jj_core.Graph, [[1]])
+        self.raises("JJ_NODE", "nodes[0] is 4;", jj_core.heads, graph, [4])
+        self.raises("JJ_CYCLE", "graph[0] is on a cycle", jj_core.heads, jj_core.Graph([[0]]), [0])
+        self.refuses("graph must be a list of lists of nodes, not int", jj_core.Graph, 1)
+
+    def test_hasher_as_of_hashlib(self):
+        ours, theirs = jj_core.Hasher(b"a"), hashlib.blake2b(b"a")
+        copies = ours.copy(), theirs.copy()
+        for it in (ours, theirs):
+            it.update(b"b")
+        for mine, other in ((ours, theirs), copies):
+            self.assertEqual((mine.digest(), mine.hexdigest()), (other.digest(), other.hexdigest()))
+            self.assertEqual((mine.name, mine.digest_size, mine.block_size), (other.name, other.digest_size, other.block_size))
+
     def test_threads(self):
         found = [None] * 4
 

@@ -35,14 +35,15 @@ from collections.abc import Iterable, Sequence
 from ctypes import c_bool, c_size_t, c_ubyte
 from typing import Any, Optional, TypeVar
 
-from ._arguments import BytesLike, array, ends_of, joined, lists, string, to_bytes, to_bytes_list, to_flag, to_graph, to_list, to_nodes
+from ._arguments import (BytesLike, Graph, array, ends_of, joined, lists, of_graph, string, to_bytes, to_bytes_list, to_flag, to_graph, to_list,
+                         to_nodes)
 from ._errors import JjError, JjMemoryError, JjValueError, cycle_fault, error, hex_fault, path_fault, shown, terms_fault
 from ._library import LIBRARY, STATUSES, JjHasher
 
 __all__ = [
-    "DIGEST_LENGTH", "BytesLike", "Hasher", "JjError", "JjMemoryError", "JjValueError", "closest_common", "closest_common_each", "content_hash",
-    "content_hash_list", "fileset_matches", "flatten", "glob_matches", "hash", "heads", "heads_each", "hex_decode", "hex_encode", "hex_prefix_matches", "order", "resolve",
-    "simplify", "walk",
+    "DIGEST_LENGTH", "BytesLike", "Graph", "Hasher", "JjError", "JjMemoryError", "JjValueError", "closest_common", "closest_common_each",
+    "content_hash", "content_hash_list", "fileset_matches", "flatten", "glob_matches", "hash", "heads", "heads_each", "hex_decode", "hex_encode",
+    "hex_prefix_matches", "materialize", "merge_contents", "order", "resolve", "simplify", "walk",
 ]
 
 DIGEST_LENGTH = 64
@@ -92,18 +93,20 @@ def content_hash_list(items: Iterable[BytesLike]) -> bytes:
 
 
 class Hasher:
-    """A BLAKE2b-512 hasher of a message that comes in pieces. Only one thread at a time may use it.
+    """A BLAKE2b-512 hasher of a message that comes in pieces, used as those of `hashlib`. Only one thread at a time may use it.
 
-    >>> hasher = Hasher()
-    >>> hasher.update(b"ab")
-    >>> hasher.update(b"c")
-    >>> hasher.finish() == hash(b"abc")
-    True
+    >>> hasher = Hasher(b"a")
+    >>> hasher.update(b"bc")
+    >>> hasher.finish() == hash(b"abc"), hasher.hexdigest()[:16]
+    (True, 'ba80a53f981c4d0d')
     """
 
-    def __init__(self) -> None:
+    name, digest_size, block_size = "blake2b", DIGEST_LENGTH, 128
+
+    def __init__(self, data: BytesLike = b"") -> None:
         self._state = JjHasher()
         LIBRARY.jj_hasher_start(self._state)
+        self.update(data)
 
     def update(self, data: BytesLike) -> None:
         """Appends bytes to the message."""
@@ -112,6 +115,25 @@ class Hasher:
     def finish(self) -> bytes:
         """The digest of the message: of the bytes of all updates, in order. More can be appended afterwards."""
         return _digest("jj_hasher_finish", self._state)
+
+    digest = finish
+
+    def hexdigest(self) -> str:
+        """The digest as hex."""
+        return self.finish().hex()
+
+    def copy(self) -> Hasher:
+        """A second hasher of the same message.
+
+        >>> one = Hasher(b"ab")
+        >>> other = one.copy()
+        >>> other.update(b"c")
+        >>> one.finish() == hash(b"ab"), other.finish() == hash(b"abc")
+        (True, True)
+        """
+        made = Hasher()
+        made._state = JjHasher.from_buffer_copy(self._state)
+        return made
 
 
 def hex_encode(data: BytesLike, reverse: bool = False) -> str:
@@ -233,6 +255,45 @@ def resolve(terms: Iterable[BytesLike], accept: bool = False) -> Optional[int]:
     return int(status)
 
 
+def _text(name: str, items: list[bytes], *flags: bool) -> tuple[int, bytes]:
+    """The status of a call and the bytes that it wrote. The buffer is doubled until they fit."""
+    room = sum(map(len, items)) + 256
+    while True:
+        status, found = _filled(name, c_ubyte, room, *joined(items), *flags)
+        if STATUSES.get(status) != "JJ_LENGTH":
+            return status, bytes(found) if status >= 0 else b""
+        room *= 2
+
+
+def merge_contents(terms: Iterable[BytesLike], accept: bool = False, words: bool = False) -> Optional[bytes]:
+    """The merge of file contents, whose terms are added and removed in turn, by lines and, with `words`, by the words of lines that conflict;
+    None for a conflict. With `accept`, sides that made the same change resolve to it.
+
+    >>> merge_contents(["a\\nb\\nC\\n", "a\\nb\\nc\\n", "A\\nb\\nc\\n"])
+    b'A\\nb\\nC\\n'
+    """
+    items = to_bytes_list(terms, "terms")
+    status, text = _text("jj_merge_contents", items, to_flag(accept, "accept"), to_flag(words, "words"))
+    if STATUSES.get(status) == "JJ_CONFLICT":
+        return None
+    if status < 0:
+        raise error(status, terms_fault(len(items), "terms"))
+    return text
+
+
+def materialize(terms: Iterable[BytesLike], accept: bool = False, git: bool = False) -> bytes:
+    """The merge of file contents by lines, with each conflict between markers: in Jujutsu's style, or with `git` in that of diff3.
+
+    >>> materialize(["1\\n", "0\\n", "2\\n"], git=True)
+    b'<<<<<<<\\n1\\n|||||||\\n0\\n=======\\n2\\n>>>>>>>\\n'
+    """
+    items = to_bytes_list(terms, "terms")
+    status, text = _text("jj_merge_materialize", items, to_flag(accept, "accept"), to_flag(git, "git"))
+    if status < 0:
+        raise error(status, terms_fault(len(items), "terms"))
+    return text
+
+
 def flatten(merges: Iterable[Iterable[T]]) -> list[T]:
     """The terms, of any type, of a merge of merges, in the order of the flattened merge, in which removed merges are inverted.
 
@@ -248,8 +309,8 @@ def flatten(merges: Iterable[Iterable[T]]) -> list[T]:
     return [terms[it] for it in found]
 
 
-def _nodes_of(name: str, graph: Sequence[Sequence[int]], *sets: Sequence[int]) -> list[int]:
-    status, found = _filled(name, c_size_t, len(graph), *lists(graph), *(it for nodes in sets for it in array(c_size_t, nodes)))
+def _nodes_of(name: str, graph: Graph, *sets: Sequence[int]) -> list[int]:
+    status, found = _filled(name, c_size_t, len(graph), *of_graph(graph), *(it for nodes in sets for it in array(c_size_t, nodes)))
     if status < 0:
         raise error(status, cycle_fault(graph))
     return list(found)
@@ -307,7 +368,7 @@ def heads_each(graph: Iterable[Iterable[int]], sets: Iterable[Iterable[int]]) ->
     """
     known = to_graph(graph)
     asked = [to_nodes(it, len(known), f"sets[{index}]") for index, it in enumerate(to_list(sets, "sets", "lists of nodes"))]
-    status, found = _lists_of("jj_graph_heads_each", sum(map(len, asked)), len(asked), *lists(known), *lists(asked))
+    status, found = _lists_of("jj_graph_heads_each", sum(map(len, asked)), len(asked), *of_graph(known), *lists(asked))
     if status < 0:
         raise error(status, cycle_fault(known))
     return found
@@ -327,7 +388,7 @@ def closest_common_each(graph: Iterable[Iterable[int]], pairs: Iterable[tuple[It
     room = len(known) + len(asked)
     # How many nodes are common is not known before.
     while True:
-        status, found = _lists_of("jj_graph_common_each", room, len(asked), *lists(known), *lists(sides[0]), *lists(sides[1]))
+        status, found = _lists_of("jj_graph_common_each", room, len(asked), *of_graph(known), *lists(sides[0]), *lists(sides[1]))
         if STATUSES.get(status) != "JJ_LENGTH":
             break
         room *= 4

@@ -54,11 +54,6 @@ def to_nodes(nodes: Iterable[int], count: int, name: str) -> list[int]:
     return found
 
 
-def to_graph(graph: Iterable[Iterable[int]]) -> list[list[int]]:
-    lists = to_list(graph, "graph", "lists of nodes")
-    return [to_nodes(targets, len(lists), f"graph[{node}]") for node, targets in enumerate(lists)]
-
-
 def array(kind: Any, items: Sequence[int]) -> tuple[Any, int]:
     """An array and its length. An array of no item has an address too only if there is room for one."""
     return (kind * max(len(items), 1))(*items), len(items)
@@ -83,3 +78,38 @@ def joined(items: Sequence[bytes]) -> tuple[Any, int, Any, int]:
 
 def lists(graph: Sequence[Sequence[int]]) -> tuple[Any, int, Any, int]:
     return (*array(c_size_t, [target for targets in graph for target in targets]), *array(c_size_t, ends_of(graph)))
+
+
+class Graph(Sequence[Sequence[int]]):
+    """A graph that is checked and converted once, for several calls: each takes it in place of lists. `graph[n]` has the targets of node n. It
+    does not change, so threads may share it.
+
+    >>> commits = Graph([[], [0], [0], [1, 2]])
+    >>> heads(commits, [0, 1, 2]), order(commits, [3]), commits[3], len(commits)
+    ([1, 2], [3, 2, 1, 0], (1, 2), 4)
+    """
+
+    __module__ = "jj_core"
+
+    def __init__(self, targets: Iterable[Iterable[int]]) -> None:
+        found = to_list(targets, "graph", "lists of nodes")
+        self._targets = [tuple(to_nodes(it, len(found), f"graph[{node}]")) for node, it in enumerate(found)]
+        self._arguments = lists(self._targets)
+
+    def __len__(self) -> int:
+        return len(self._targets)
+
+    def __getitem__(self, node: Any) -> Any:
+        return self._targets[node]
+
+    def __repr__(self) -> str:
+        return f"Graph of {len(self)} nodes"
+
+
+def to_graph(graph: Iterable[Iterable[int]]) -> Graph:
+    return graph if isinstance(graph, Graph) else Graph(graph)
+
+
+def of_graph(graph: Graph) -> tuple[Any, int, Any, int]:
+    """The arguments of a call that takes a graph."""
+    return graph._arguments

@@ -36,6 +36,8 @@ SIGNATURES = {
     "jj_walk": [BYTES, c_size_t, INDICES, c_size_t, c_bool, BYTES, c_size_t, INDICES, c_size_t, BOOLS, c_size_t],
     "jj_merge_simplify": [BYTES, c_size_t, INDICES, c_size_t, INDICES, c_size_t],
     "jj_merge_resolve": [BYTES, c_size_t, INDICES, c_size_t, c_bool],
+    "jj_merge_contents": [BYTES, c_size_t, INDICES, c_size_t, c_bool, c_bool, BYTES, c_size_t],
+    "jj_merge_materialize": [BYTES, c_size_t, INDICES, c_size_t, c_bool, c_bool, BYTES, c_size_t],
     "jj_merge_flatten": [INDICES, c_size_t, INDICES, c_size_t],
     "jj_graph_order": [INDICES, c_size_t, INDICES, c_size_t, INDICES, c_size_t, INDICES, c_size_t],
     "jj_graph_heads": [INDICES, c_size_t, INDICES, c_size_t, INDICES, c_size_t, INDICES, c_size_t],

@@ -39,6 +39,12 @@ extern "C" {
         bytes: *const u8, bytes_len: usize, ends: *const usize, ends_len: usize, kept: *mut usize, kept_len: usize,
     ) -> i64;
     pub fn jj_merge_resolve(bytes: *const u8, bytes_len: usize, ends: *const usize, ends_len: usize, accept: bool) -> i64;
+    pub fn jj_merge_contents(
+        bytes: *const u8, bytes_len: usize, ends: *const usize, ends_len: usize, accept: bool, words: bool, text: *mut u8, text_len: usize,
+    ) -> i64;
+    pub fn jj_merge_materialize(
+        bytes: *const u8, bytes_len: usize, ends: *const usize, ends_len: usize, accept: bool, git: bool, text: *mut u8, text_len: usize,
+    ) -> i64;
     pub fn jj_merge_flatten(ends: *const usize, ends_len: usize, order: *mut usize, order_len: usize) -> i64;
     pub fn jj_graph_order(
         targets: *const usize, targets_len: usize, ends: *const usize, ends_len: usize, nodes: *const usize, nodes_len: usize,

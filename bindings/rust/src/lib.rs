@@ -21,7 +21,7 @@ mod lists;
 
 pub use error::{Error, ErrorKind};
 use error::{number, only};
-pub use lists::{Graph, Joined};
+pub use lists::{Graph, Items, Joined};
 
 /// The length of a digest.
 pub const DIGEST_LENGTH: usize = 64;
@@ -300,6 +300,56 @@ pub fn resolve(terms: &Joined, accept: bool) -> Result<Option<usize>, Error> {
         Err(error) if error.kind() == ErrorKind::Conflict => Ok(None),
         index => index.map(Some),
     }
+}
+
+// The bytes that a call writes. The buffer is doubled until they fit.
+fn written(terms: &Joined, call: impl Fn(*mut u8, usize) -> i64) -> Result<Vec<u8>, Error> {
+    let mut room = terms.bytes.len() + 256;
+    loop {
+        let mut text = vec![0; room];
+        match number(call(text.as_mut_ptr(), room), |kind| terms.terms_error(kind)) {
+            Err(error) if error.kind() == ErrorKind::Length => room *= 2,
+            Err(error) => return Err(error),
+            Ok(len) => {
+                text.truncate(len);
+                return Ok(text);
+            }
+        }
+    }
+}
+
+/// The merge of file contents, whose terms are added and removed in turn, by lines and, with `words`, by the words of lines that conflict;
+/// `None` for a conflict. With `accept`, sides that made the same change resolve to it.
+///
+/// ```
+/// use jj_core_verified::{merge_contents, Joined};
+/// let terms = Joined::new(&["a\nb\nC\n", "a\nb\nc\n", "A\nb\nc\n"]);
+/// assert_eq!(merge_contents(&terms, false, false)?, Some(b"A\nb\nC\n".to_vec()));
+/// # Ok::<(), jj_core_verified::Error>(())
+/// ```
+pub fn merge_contents(terms: &Joined, accept: bool, words: bool) -> Result<Option<Vec<u8>>, Error> {
+    let merged = written(terms, |out, len| unsafe {
+        ffi::jj_merge_contents(terms.bytes.as_ptr(), terms.bytes.len(), terms.ends.as_ptr(), terms.ends.len(), accept, words, out, len)
+    });
+    match merged {
+        Err(error) if error.kind() == ErrorKind::Conflict => Ok(None),
+        text => text.map(Some),
+    }
+}
+
+/// The merge of file contents by lines, with each conflict between markers: in Jujutsu's style, or with `git` in that of diff3.
+///
+/// ```
+/// use jj_core_verified::{materialize, Joined};
+/// let terms = Joined::new(&["1\n", "0\n", "2\n"]);
+/// let text = b"<<<<<<<\n1\n|||||||\n0\n=======\n2\n>>>>>>>\n";
+/// assert_eq!(materialize(&terms, false, true)?, text);
+/// # Ok::<(), jj_core_verified::Error>(())
+/// ```
+pub fn materialize(terms: &Joined, accept: bool, git: bool) -> Result<Vec<u8>, Error> {
+    written(terms, |out, len| unsafe {
+        ffi::jj_merge_materialize(terms.bytes.as_ptr(), terms.bytes.len(), terms.ends.as_ptr(), terms.ends.len(), accept, git, out, len)
+    })
 }
 
 /// The terms of a merge of merges, in the order of the flattened merge, in which removed merges are inverted.

@@ -84,9 +84,7 @@ impl Joined {
     /// assert_eq!((paths.get(1), paths.get(2)), (Some(&b"bc"[..]), None));
     /// ```
     pub fn get(&self, index: usize) -> Option<&[u8]> {
-        let end = *self.ends.get(index)?;
-        let start = index.checked_sub(1).map_or(0, |before| self.ends[before]);
-        Some(&self.bytes[start..end])
+        self.iter().nth(index)
     }
 
     /// Iterates over the byte strings.
@@ -95,8 +93,8 @@ impl Joined {
     /// use jj_core_verified::Joined;
     /// assert!(Joined::new(&["a", "bc"]).iter().rev().eq([&b"bc"[..], b"a"]));
     /// ```
-    pub fn iter(&self) -> impl DoubleEndedIterator<Item = &[u8]> + ExactSizeIterator + '_ {
-        (0..self.len()).map(|index| self.get(index).unwrap_or_default())
+    pub fn iter(&self) -> Items<'_, u8> {
+        Items { list: &self.bytes, ends: &self.ends, start: 0 }
     }
 
     /// Iterates over the byte strings that are chosen, as by the result of [`glob_matches`](crate::glob_matches),
@@ -138,6 +136,67 @@ impl<T: AsRef<[u8]>> FromIterator<T> for Joined {
         joined
     }
 }
+
+impl<'a> IntoIterator for &'a Joined {
+    type Item = &'a [u8];
+    type IntoIter = Items<'a, u8>;
+
+    fn into_iter(self) -> Items<'a, u8> {
+        self.iter()
+    }
+}
+
+/// Iterates over the byte strings of a [`Joined`], or over the targets of the nodes of a [`Graph`].
+///
+/// ```
+/// use jj_core_verified::Joined;
+/// let mut lengths = Vec::new();
+/// for path in &Joined::new(&["a", "bc"]) {
+///     lengths.push(path.len());
+/// }
+/// assert_eq!(lengths, [1, 2]);
+/// ```
+#[derive(Clone, Debug)]
+pub struct Items<'a, T> {
+    list: &'a [T],
+    ends: &'a [usize],
+    // The index at which the next item begins.
+    start: usize,
+}
+
+impl<'a, T> Iterator for Items<'a, T> {
+    type Item = &'a [T];
+
+    fn next(&mut self) -> Option<&'a [T]> {
+        self.nth(0)
+    }
+
+    fn nth(&mut self, index: usize) -> Option<&'a [T]> {
+        let Some(end) = self.ends.get(index).copied() else {
+            self.ends = &[];
+            return None;
+        };
+        let start = index.checked_sub(1).map_or(self.start, |before| self.ends[before]);
+        (self.ends, self.start) = (&self.ends[index + 1..], end);
+        Some(&self.list[start..end])
+    }
+
+    fn size_hint(&self) -> (usize, Option<usize>) {
+        (self.ends.len(), Some(self.ends.len()))
+    }
+}
+
+impl<'a, T> DoubleEndedIterator for Items<'a, T> {
+    fn next_back(&mut self) -> Option<&'a [T]> {
+        let (end, ends) = self.ends.split_last()?;
+        self.ends = ends;
+        Some(&self.list[ends.last().copied().unwrap_or(self.start)..*end])
+    }
+}
+
+impl<T> ExactSizeIterator for Items<'_, T> {}
+
+impl<T> std::iter::FusedIterator for Items<'_, T> {}
 
 /// A graph as joined lists of targets: node `n` has the `n`-th list.
 ///
@@ -197,6 +256,17 @@ impl Graph {
         self.ends.is_empty()
     }
 
+    /// Iterates over the targets of each node.
+    ///
+    /// ```
+    /// use jj_core_verified::Graph;
+    /// let parents = Graph::new(&[vec![], vec![0], vec![0, 1]]);
+    /// assert_eq!(parents.iter().filter(|targets| targets.len() > 1).count(), 1);
+    /// ```
+    pub fn iter(&self) -> Items<'_, usize> {
+        Items { list: &self.targets, ends: &self.ends, start: 0 }
+    }
+
     /// The targets of a node. Panics if there is no such node.
     ///
     /// ```
@@ -222,8 +292,10 @@ impl Graph {
     // Removes nodes without targets until each node that is left has one, and follows these until a node repeats.
     fn node_on_cycle(&self) -> Option<usize> {
         let mut above = vec![Vec::new(); self.len()];
-        (0..self.len()).for_each(|node| self.targets(node).iter().for_each(|target| above[*target].push(node)));
-        let mut left: Vec<usize> = (0..self.len()).map(|node| self.targets(node).len()).collect();
+        for (node, targets) in self.iter().enumerate() {
+            targets.iter().for_each(|target| above[*target].push(node));
+        }
+        let mut left: Vec<usize> = self.iter().map(<[usize]>::len).collect();
         let mut ready: Vec<usize> = (0..self.len()).filter(|node| left[*node] == 0).collect();
         while let Some(node) = ready.pop() {
             for it in &above[node] {
@@ -239,6 +311,15 @@ impl Graph {
             node = *self.targets(node).iter().find(|target| left[**target] > 0)?;
         }
         Some(node)
+    }
+}
+
+impl<'a> IntoIterator for &'a Graph {
+    type Item = &'a [usize];
+    type IntoIter = Items<'a, usize>;
+
+    fn into_iter(self) -> Items<'a, usize> {
+        self.iter()
     }
 }
 

@@ -293,5 +293,20 @@ fn lists() {
     more.extend(["e"]);
     assert_eq!((more.get(3), more.get(4)), (Some(&b"e"[..]), None));
     assert_eq!(paths.iter().collect::<Joined>(), Joined::new(&["a", "", "bc"]));
-    assert_eq!((0..3).map(|node| vec![0; node]).collect::<Graph>().targets(2), [0, 0]);
+    let graph = (0..3).map(|node| vec![0; node]).collect::<Graph>();
+    assert_eq!(graph.targets(2), [0, 0]);
+    assert_eq!((&graph).into_iter().map(<[usize]>::len).collect::<Vec<_>>(), [0, 1, 2]);
+}
+
+#[test]
+fn iterators_from_both_ends() {
+    let paths = Joined::new(&["a", "", "bc", "d"]);
+    let mut items = paths.iter();
+    assert_eq!((items.next_back(), items.nth(1), items.len()), (Some(&b"d"[..]), Some(&b""[..]), 1));
+    assert_eq!((items.next_back(), items.next(), items.next_back(), items.len()), (Some(&b"bc"[..]), None, None, 0));
+    assert_eq!((paths.iter().nth(4), paths.iter().nth_back(3)), (None, Some(&b"a"[..])));
+    for (item, expected) in (&paths).into_iter().zip([&b"a"[..], b"", b"bc", b"d"]) {
+        assert_eq!(item, expected);
+    }
+    assert!(Joined::new::<&str>(&[]).iter().next().is_none() && Graph::default().iter().next_back().is_none());
 }

@@ -6,3 +6,4 @@ mod Flags
 mod TreeWalks
 mod GraphResults
 mod JoinedResults
+mod TextMerges

@@ -13,3 +13,4 @@ pub mod GlobResults
 pub mod TreeWalks
 pub mod ArrayGraphs
 pub mod GraphBatches
+pub mod TextMerges

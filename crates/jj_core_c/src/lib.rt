@@ -16,4 +16,5 @@ mod joined_lists;
 mod merges;
 mod paths;
 mod pieces;
+mod text_merges;
 mod tree_walks;

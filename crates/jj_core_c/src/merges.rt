@@ -139,7 +139,7 @@ fn resolved_piece(
     Ok(resolved_index(&terms, same_change))
 }
 
-fn same_change_of(accept: bool) -> SameChange
+pub(crate) fn same_change_of(accept: bool) -> SameChange
     ensures { result ≡ same_change accept }
 {
     if accept {
