@@ -85,7 +85,7 @@ class Item:
             self.head = self.text.partition("{")[0]
             inside = start + self.head.count("\n") + 1
             # Of the toolchain's types, only the value that contracts see is of interest.
-            is_read = source.crate in CRATES or (self.trait_name() or "_")[0] == "Model"
+            is_read = source.crate in CRATES or self.trait == "Model"
             if self.kind in ("trait", "mod") or self.kind == "impl" and is_read:
                 self.children = source.items(inside, end - 1, self)
         elif self.kind == "ghost" and parent:
@@ -125,35 +125,43 @@ class Item:
     def note(self):
         return self.doc or comment(self.above, "//")
 
-    @lru_cache(None)
-    def trait_name(self):
-        """The trait that an impl is of and its type, or None."""
-        found = self.kind == "impl" and IMPL.match(self.head)
-        return found.group("trait", "of") if found and found["trait"] else None
+    @cached_property
+    def implemented(self):
+        return (self.kind == "impl" and IMPL.match(self.head)) or {"trait": None, "of": ""}
 
-    @lru_cache(None)
-    def type_name(self):
+    @cached_property
+    def trait(self):
+        """The name of a trait, or of the trait that an impl is of; or nothing."""
+        return self.name if self.kind == "trait" else self.implemented["trait"] or ""
+
+    @cached_property
+    def type(self):
         """The name of the type of an impl."""
-        of = self.kind == "impl" and IMPL.match(self.head)
-        found = of and re.match(r"(?:&(?:'\w+ )?(?:mut )?)?(?:\w+::)*(\w+)", of["of"])
+        found = re.match(r"(?:&(?:'\w+ )?(?:mut )?)?(?:\w+::)*(\w+)", self.implemented["of"])
         return found[1] if found else ""
 
+    @cached_property
+    def ghosts(self):
+        """The ghost members of a trait or an impl by name."""
+        return {it.name: it for it in self.children if it.kind == "ghost"}
+
+    @cached_property
     def owner(self):
-        is_trait = self.parent and self.parent.kind == "trait"
-        return "" if not self.parent else self.parent.name if is_trait else self.parent.type_name()
+        """The name of the trait or the type to which it belongs."""
+        return self.parent and (self.parent.type or self.parent.trait) or ""
 
     def path(self):
-        return f"{self.owner()}::{self.name}" if self.parent else self.name
+        return f"{self.owner}::{self.name}" if self.parent else self.name
 
-    def line(self):
-        return self.start + 1
+    def where(self):
+        return f"{self.source.where()}:{self.start + 1}"
 
     def signature(self):
         """The declaration: of a struct without its private fields."""
+        if self.kind in ("trait", "fn", "impl"):
+            return self.head
         if self.kind in ("enum", "type", "const", "static") or self.text.endswith(";"):
             return self.text
-        if self.kind != "struct":
-            return self.head
         shown = re.findall(r"(?:^[ \t]*///[^\n]*\n)*^    pub [^\n]*,\n", self.text, re.M)
         rest = "    // private fields\n" if len(shown) < len(FIELD.findall(self.text)) else ""
         return self.head + "{\n" + "".join(shown) + rest + "}"
@@ -246,6 +254,11 @@ def sources(crate):
 
 
 @lru_cache(None)
+def top_items(crate, kind=""):
+    return [it for source in sources(crate) for it in source.top if kind in ("", it.kind)]
+
+
+@lru_cache(None)
 def module_source(crate, module):
     return next((it for it in sources(crate) if it.module == module), None)
 
@@ -294,3 +307,7 @@ def exports(source):
     for name, words in source.imports(public=True).items():
         found.setdefault(name, resolve(source, words))
     return found
+
+
+def exported_items(source):
+    return [it for it in exports(source).values() if isinstance(it, Item)]

@@ -1,21 +1,28 @@
-"""Checks a site: forms that could not be read, public items without a page, and links that lead
-nowhere."""
+"""Checks a site: forms that could not be read, public items without a page, words of clauses that
+have no definition, and links that lead nowhere."""
 import html
 import re
 
-from source_reader import FAULTS, Source, exports, public_modules, sources
+from source_reader import FAULTS, exported_items, public_modules, sources, top_items
 
 from .project import SHOWN
 
 PUBLIC = re.compile(r'(?: {4})?pub (?:const |unsafe |extern "C" )*'
                     r"(?:fn|struct|enum|trait|type|const|static)\b")
 LINK = re.compile(r'<a (href|w|k)=\\?"([^"\\]*)')
+BUILT_IN = set("ℕ zero suc min max + - * / % ^ < ≤".split())
+# Names that the toolchain makes, and words that contracts have without a definition.
+GENERATED = re.compile(r"the_row$|(Some|None|Ok|Err|Type|Unit|Self|[A-Z]{1,2}\d?)\b")
 
 
 def faults(site):
     yield from dict.fromkeys(FAULTS)
     for crate in SHOWN:
         yield from items_without_page(crate)
+    for item, clause, text in site.clause_texts:
+        for it in filter(lambda it: is_unknown(it, text.scope), text.missing()):
+            yield (f"crates/{item.where()}: {item.path()}: the clause "
+                   f"{clause.name} cites {it}, which is not found")
     ids = {name: set(map(html.unescape, re.findall(r'\bid="([^"]*)"', text)))
            for name, text in site.files.items() if name.endswith(".html")}
     words = {it.key for it in site.cited} | {it.crate for it in site.cited}
@@ -29,17 +36,24 @@ def faults(site):
                 yield f"{name}: the link to {target} leads nowhere"
 
 
+def is_unknown(token, scope):
+    head = token.split(".")[0]
+    looks_defined = (head in scope.names or head in scope.modules or
+                     re.fullmatch(r"[A-Z]\w+(\.\w+)*|[a-z]\w*_\w+", token))
+    return head not in BUILT_IN and looks_defined and not GENERATED.match(head)
+
+
 def items_without_page(crate):
     for source in sources(crate):
         read = {it.start for it in source.every_item()}
         for at, line in enumerate(source.lines):
             if PUBLIC.match(line) and at not in read:
                 yield f"crates/{source.where()}:{at + 1}: a public item was not read"
-    impls = [it for source in sources(crate) for it in source.top if it.kind == "impl"]
-    for item in (it for module in public_modules(crate) for it in exports(module).values()
-                 if it and not isinstance(it, Source) and it.source.crate == crate):
-        methods = [it for impl in impls if impl.type_name() == item.name for it in impl.children]
+    for item in (it for module in public_modules(crate) for it in exported_items(module)
+                 if it.source.crate == crate):
+        methods = [it for impl in top_items(crate, "impl") if impl.type == item.name
+                   for it in impl.children]
         members = [it for it in item.children if it.kind != "ghost use"]
         for it in (item, *methods, *members):
             if (it.public or it in members) and not it.page:
-                yield f"crates/{it.source.where()}:{it.line()}: {it.path()} has no page"
+                yield f"crates/{it.where()}: {it.path()} has no page"

@@ -3,7 +3,7 @@ import html
 import re
 
 SPAN = re.compile(r"\[`?(?P<said>[^\]`]*(?:`[^`]*`)?[^\]`]*)`?\]\((?P<target>[^)]*)\)|"
-                  r"\[?`(?P<code>[^`]+)`\]?|\*\*(?P<strong>.+?)\*\*|"
+                  r"\[?`(?P<code>[^`]+)`\]?|\*\*(?P<b>.+?)\*\*|"
                   r"(?<!\w)\*(?P<em>[^*\s][^*]*)\*(?!\w)")
 # The blocks, by how they begin; each goes on as far as its second pattern matches lines.
 BLOCKS = re.compile(r"""^(?:```.*\n(?P<fenced>[^`]*?)^```$
@@ -14,6 +14,10 @@ BLOCKS = re.compile(r"""^(?:```.*\n(?P<fenced>[^`]*?)^```$
     |(?P<said>.+(?:\n(?![#|]|[-*][ ]|```).+)*))$""", re.M | re.X)
 
 
+def a(href, said):
+    return f'<a href="{html.escape(href)}">{said}</a>'
+
+
 def first_sentence(text):
     return re.split(r"(?<=[.])\s", text.replace("\n", " ").strip(), maxsplit=1)[0]
 
@@ -21,21 +25,16 @@ def first_sentence(text):
 def inline(text, link=lambda words: "", href=lambda target: target):
     """A line in HTML. `link` returns where a name in code leads, or nothing; `href` where a link of
     the text leads."""
-    out, at, text = [], 0, text.replace("\n", " ")
-    for found in SPAN.finditer(text):
-        out.append(html.escape(text[at:found.start()]))
-        at = found.end()
-        if found["target"]:
-            target = html.escape(href(found["target"]))
-            out.append(f'<a href="{target}">{inline(found["said"])}</a>')
-        elif found["code"]:
-            said, target = f"<code>{html.escape(found['code'])}</code>", link(found["code"])
-            out.append(f'<a href="{html.escape(target)}">{said}</a>' if target else said)
-        else:
-            mark = "b" if found["strong"] else "em"
-            said = inline(found["strong"] or found["em"], link, href)
-            out.append(f"<{mark}>{said}</{mark}>")
-    return "".join(out) + html.escape(text[at:])
+    def span(found):
+        kind, words = found.lastgroup, html.unescape(found[found.lastgroup])
+        if kind == "target":
+            return a(href(words), inline(html.unescape(found["said"])))
+        if kind == "code":
+            said, target = f"<code>{found['code']}</code>", link(words)
+            return a(target, said) if target else said
+        return f"<{kind}>{inline(words, link, href)}</{kind}>"
+
+    return SPAN.sub(span, html.escape(text.replace("\n", " ")))
 
 
 def table(text, line_of, row_id):

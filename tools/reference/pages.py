@@ -6,38 +6,25 @@ from collections import defaultdict
 from pathlib import Path
 from string import Template
 
+import guarantees
 from crate_list import ROOT, layers
-from source_reader import (CRATES, FAULTS, TYPES, Source, exports, module_source, public_modules,
-                           resolve, sources)
+from source_reader import (CRATES, TYPES, Source, exported_items, exports, module_source,
+                           public_modules, resolve)
 
-from .definitions import (LEANS, VALUE, Scope, Text, binders, declared_items, first,
-                          type_definition)
-from .markdown import first_sentence, inline, markdown
-from .project import GUARANTEES, GUIDE, SHOWN, TESTS, Project
+from .definitions import LEANS, VALUE, Scope, Text, binders, declared, type_definition
+from .markdown import a, first_sentence, inline, markdown
+from .project import GUIDE, SHOWN, TESTS, Project, crates_of, page_of, title_of
 
 HERE = Path(__file__).parent
 FRAME, LEGEND = Template((HERE / "page.html").read_text()), (HERE / "legend.html").read_text()
 DOCUMENTS = [ROOT / "README.md", *sorted((ROOT / "docs").glob("*.md")), *GUIDE]
-BUILT_IN = set("ℕ zero suc min max + - * / % ^ < ≤".split())
-# Names that the toolchain makes, and words that contracts have without a definition.
-GENERATED = re.compile(r"the_row$|(Some|None|Ok|Err|Type|Unit|Self|[A-Z]{1,2}\d?)\b")
 MOST_CALLERS = 12
-
-
-def page_of(module):
-    return f"{module.name().replace('::', '.')}.html"
+INTRODUCTION = """<h1>Reference of jj-core in Rattle</h1><p>Every public item of the libraries, \
+with the contract that the prover has shown. A crate uses the crates of the layers below it.</p>"""
 
 
 def document_page(path):
     return ".".join(["doc", *path.with_suffix("").parts[-2 if path in GUIDE else -1:], "html"])
-
-
-def title_of(path):
-    return path.read_text().split("\n", 1)[0].strip("# ")
-
-
-def a(href, said):
-    return f'<a href="{html.escape(href)}">{said}</a>'
 
 
 def link_to(item, clause=None):
@@ -68,12 +55,10 @@ def listed(rows, heading="", kind=""):
 
 def clause_anchor(item, clause):
     """The anchor of a clause; a requires has another one than the ensures of its name."""
-    same = [it for it in item.clauses if it.name == clause.name]
-    end = ""
+    same, at = [it for it in item.clauses if it.name == clause.name], item.clauses.index(clause)
+    end = f"-{at}" if len(same) > 1 and at else ""
     if clause.kind.startswith("requires") and any(it.kind.startswith("ensures") for it in same):
         end = "-requires"
-    elif len(same) > 1 and item.clauses.index(clause):
-        end = f"-{item.clauses.index(clause)}"
     return f"{item.anchor}.{clause.name or clause.kind}{end}"
 
 
@@ -87,34 +72,20 @@ def gloss(cited, known):
     return listed(rows, kind=" class=gloss")
 
 
-def modules_below(module):
-    """The public modules just below a module, and those that it passes on, by name."""
-    own = [(it.module.rpartition(".")[2], it) for it in public_modules(module.crate)
-           if it.module and it.module.rpartition(".")[0] == module.module]
-    return own + [(name, it) for name, it in exports(module).items() if isinstance(it, Source)]
-
-
 def signature_types(item):
     """The types in a signature: where fields of values are looked up."""
     heads = item.head + (item.parent.head if item.parent else "")
     places = [item.source.crate, *CRATES[item.source.crate], "std_alloc", "core", "std"]
-    items = (first(declared_items(it).get(name) for it in places)
-             for name in dict.fromkeys(re.findall(r"\b[A-Z]\w*", heads)))
-    return [type_definition(it) for it in items if it]
-
-
-def is_unknown(token, scope):
-    head = token.split(".")[0]
-    looks_defined = (head in scope.names or head in scope.modules or
-                     re.fullmatch(r"[A-Z]\w+(\.\w+)*|[a-z]\w*_\w+", token))
-    return head not in BUILT_IN and looks_defined and not GENERATED.match(head)
+    names = dict.fromkeys(re.findall(r"\b[A-Z]\w*", heads))
+    return [type_definition(it) for it in (declared(name, places) for name in names) if it]
 
 
 class Site:
     """The pages by file name, and the definitions that they cite."""
 
     def __init__(self):
-        self.project, self.files, self.cited, self.search = Project(), {}, set(), []
+        self.project, self.files, self.cited = Project(), {}, set()
+        self.search, self.clause_texts = [], []
         for module in self.project.pages:
             self.add_page(page_of(module), module.name(), self.module_page(module))
         for path in DOCUMENTS:
@@ -138,24 +109,30 @@ class Site:
             (out / name).parent.mkdir(parents=True, exist_ok=True)
             (out / name).write_text(text)
 
-    def link_in(self, crates):
-        """The function from a name to where it is documented, looked up in these crates."""
+    def link_in(self, crates, others=()):
+        """The function from a name, or a name and clauses, to where it is documented: looked up in
+        these crates, and if they lack it by its name in the others."""
         def link(words):
-            name = words if re.fullmatch(r"[\w:]+", words) else ""
+            name, _, clauses = words.partition(": ")
             if name in SHOWN:
                 return page_of(module_source(name, ""))
-            found = (it for crate in crates for it in self.project.find(crate, name) if name)
-            return next((link_to(it) for it in found if it.anchor), "")
+            found = [it for crate in crates for it in self.project.find(crate, name) if it.anchor]
+            found = found or [it for it in self.project.by_name[name] if it.source.crate in others]
+            cited = (link_to(it, clause) for it in found for clause in it.clauses
+                     if clauses and clause.name == clauses.split(", ")[0])
+            return next(cited, link_to(found[0]) if found else "")
         return link
 
     def module_page(self, module):
         items, link = self.project.on_page[module], self.link_in([module.crate])
         tops = [it for it in items if not it.parent]
         notes = inline(" ".join(self.project.notes[module.crate]), link)
-        passed = [it for it in exports(module).values() if it and not isinstance(it, Source)
-                  and it.page and it.page != page_of(module)]
-        below = (a(page_of(it), f"<code>{name}</code>") + " " + summary(it.doc)
-                 for name, it in modules_below(module))
+        passed = [it for it in exported_items(module) if it.page and it.page != page_of(module)]
+        inside = {it.module.rpartition(".")[2]: it for it in public_modules(module.crate)
+                  if it.module and it.module.rpartition(".")[0] == module.module}
+        inside |= {name: it for name, it in exports(module).items() if isinstance(it, Source)}
+        below = (f"{a(page_of(it), f'<code>{name}</code>')} {summary(it.doc)}"
+                 for name, it in inside.items())
         body = [f"<h1>{module.name()}</h1>", markdown(module.doc, link),
                 f"<p class=meta>Of the crate: {notes}</p>" if notes else "",
                 listed(below, "Modules"), listed(map(row, passed), "Re-exports"),
@@ -170,18 +147,17 @@ class Site:
     def item(self, item, module, link, inner=""):
         """The section of an item, with the sections of what belongs to it."""
         self.search.append([item.path(), item.kind, module.name(), link_to(item), plain(item.note)])
-        text = item.head if item.kind in ("trait", "fn") else item.signature()
-        text = "" if item.kind == "ghost" else html.escape(re.sub(r"(?m)^    ", "", text.strip())
-                                                           if item.parent else text.strip())
+        text = "" if item.kind == "ghost" else html.escape(item.signature().strip())
+        text = re.sub(r"(?m)^    ", "", text) if item.parent else text
         text = re.sub(r"\b[A-Z]\w+", lambda it: self.type_link(item, it[0]), text)
         text = re.sub(r"(?m)^( *)(///?.*)$", r"<i>\1\2</i>", text)
-        head = item.parent.head if item.parent and item.parent.trait_name() else ""
+        head = item.parent.head if item.parent and item.parent.implemented["trait"] else ""
         parts = [f"<p class=meta><code>{html.escape(' '.join(head.split()))}</code></p>" if head
                  else "", f"<pre class=sig>{text}</pre>" if text else "",
                  markdown(item.doc, link), self.contract(item), self.mentions(item), inner]
         level, kind = (3, item.kind.replace("fn", "method")) if item.parent else (2, item.kind)
         title = (f"{a(link_to(item), item.path())} <span class=kind>{kind} · "
-                 f"{item.source.where()}:{item.line()}</span>")
+                 f"{item.where()}</span>")
         return (f'<section class=item id="{html.escape(item.anchor)}"><h{level}>{title}</h{level}>'
                 f'{"".join(parts)}</section>')
 
@@ -221,9 +197,11 @@ class Site:
             said, cited = Text(model.text.partition(VALUE)[2].strip(), model.scope).html([model])
             self.cite([model, *cited])
             return f"<p class=meta>{VALUE}</p><pre>{said}</pre>" if said else ""
-        claims = ((it, row_link(it, cited_clauses(item, it)))
-                  for it in dict.fromkeys(self.project.claims[item]))
-        rows = (f"{inline(it.text)} <span class=kind>{link}</span>" for it, link in claims)
+        rows, there = [], {it.name for it in item.clauses}
+        for claim in dict.fromkeys(self.project.claims[item]):
+            names = dict.fromkeys(it for _, names in claim.cited for it in names if it in there)
+            link = row_link(claim, ", ".join(names) or "claim")
+            rows.append(f"{inline(claim.text)} <span class=kind>{link}</span>")
         return listed(rows, kind=" class=claims") + (self.clauses(item) if item.clauses else "")
 
     def clauses(self, item):
@@ -235,19 +213,17 @@ class Site:
             text = Text(re.sub(r"\n\s+", "\n  ", clause.text), scope, hidden)
             body, cited = text.html(signature_types(item))
             below |= self.cite(cited)
-            FAULTS.extend(f"crates/{item.source.where()}:{item.line()}: {item.path()}: the clause "
-                          f"{clause.name} cites {it}, which is not found"
-                          for it in text.missing() if is_unknown(it, scope))
+            self.clause_texts.append((item, clause, text))
             title = a(link_to(item, clause), f"<b>{clause.name}</b>")
             said = f"<p class=note>{inline(clause.note)}</p>" if clause.note else ""
             parts.append(f'<div class=clause id="{html.escape(clause_anchor(item, clause))}">'
                          f"<span class=kw>{clause.kind}</span> {title}{said}<pre>{body}</pre>"
                          f"{gloss(cited, known)}</div>")
         ours = sum(it.is_ours for it in below)
-        return "".join(parts) + (
-            f"<p class=meta><button class=all aria-expanded=false>Unfold all</button> It rests on "
-            f"{ours} definitions of the project and {len(below) - ours} of the toolchain.</p>"
-            "<div></div>")
+        parts.append("<p class=meta><button class=all aria-expanded=false>Unfold all</button> It "
+                     f"rests on {ours} definitions of the project and {len(below) - ours} of the "
+                     "toolchain.</p><div></div>")
+        return "".join(parts)
 
     def mentions(self, item):
         """The proved callers of an item, the claims that it shows, the pages of the guide that cite
@@ -259,23 +235,23 @@ class Site:
         callers = list(dict.fromkeys([*project.callers[item], *of_rows]))
         shows = [it for it in project.rows
                  if item.name in it.callers and item.source.crate == f"{it.crate}_tests"]
-        guide = list(dict.fromkeys(project.guide[item]))
         mutations = [("", *it) for it in project.mutations[item]]
         mutations += [(f" of {it.path()}", *found) for it in callers for found in
                       project.mutations[it]]
-        rows = [f"Proved caller {row(it, f'{it.source.crate}::{it.path()}')}"
-                for it in callers[:MOST_CALLERS]]
         more = len(callers) - MOST_CALLERS
-        rows += [f"{more} more proved callers"] if more > 0 else []
-        rows += [f"Shows the claim: {row_link(it, inline(it.text))}" for it in shows]
-        rows += [f"Guide: {a(document_page(it), inline(title_of(it)))}" for it in guide]
-        rows += [f"Mutation{of} that is rejected: <code>{name}</code>, "
-                 f"<code>{html.escape(new)}</code>" for of, name, new in mutations]
-        kinds = ((callers, "proved caller"), (shows, "claim"), (guide, "guide page"),
-                 (mutations, "mutation"))
-        counts = (f"{len(it)} {what}{'s' * (len(it) > 1)}" for it, what in kinds if it)
-        said = ", ".join(counts)
-        return f"<details><summary>{said}</summary>{listed(rows)}</details>" if said else ""
+        groups = {"proved caller": [f"Proved caller {row(it, f'{it.source.crate}::{it.path()}')}"
+                                    for it in callers],
+                  "claim": [f"Shows the claim: {row_link(it, inline(it.text))}" for it in shows],
+                  "guide page": [f"Guide: {a(document_page(it), inline(title_of(it)))}"
+                                 for it in dict.fromkeys(project.guide[item])],
+                  "mutation": [f"Mutation{of} that is rejected: <code>{name}</code>, "
+                               f"<code>{html.escape(new)}</code>" for of, name, new in mutations]}
+        said = ", ".join(f"{len(rows)} {what}{'s' * (len(rows) > 1)}"
+                         for what, rows in groups.items() if rows)
+        if more > 0:
+            groups["proved caller"][MOST_CALLERS:] = [f"{more} more proved callers"]
+        rows = listed(sum(groups.values(), []))
+        return f"<details><summary>{said}</summary>{rows}</details>" if said else ""
 
     def document(self, path):
         """A document, with links from the names that it cites. In GUARANTEES these are looked up in
@@ -288,44 +264,25 @@ class Site:
             return "index.html" if file and there.exists() else target
 
         text, number, out = path.read_text(), 0, []
-        if path != GUARANTEES:
-            named = re.findall(r"`(\w+)`", title_of(path))
-            crates = [it for it in (*named, *(f"{it}_tests" for it in named)) if it in CRATES]
+        if path != guarantees.PAGE:
+            tests = [f"{it}_tests" for it in crates_of(path)]
+            crates = [*crates_of(path), *(it for it in tests if it in CRATES)]
             return markdown(text, self.link_in(crates), href)
-        text = re.sub(r"\[(`[^`]+`)\]\([^)]*\)", r"\1", text)
-        for part in re.split(r"^(?=## `)", text, flags=re.M):
+        for part in re.split(r"^(?=## `)", guarantees.LINK.sub(r"\1", text), flags=re.M):
             crate = re.match(r"## `(\w+)`|", part)[1]
-            link = self.citation(crate) if crate else lambda words: ""
-            out.append(markdown(part, link, href,
+            out.append(markdown(part, self.link_in([crate] if crate else [], TESTS), href,
                                 lambda line, start=number: f' id="row-{start + line}"'))
             number += part.count("\n")
         return "".join(out)
 
-    def citation(self, crate):
-        """The function from a citation of GUARANTEES, in the section of a crate, to the clause or
-        the item."""
-        def link(words):
-            name, _, clauses = words.partition(": ")
-            file = [it for source in sources(crate) if str(source.path).endswith("/" + name)
-                    for it in source.every_item()]
-            items = [it for it in file or self.project.find(crate, name) if it.anchor]
-            items = items or [it for it in self.project.by_name[name] if it.source.crate in TESTS]
-            cited = (link_to(it, clause) for it in items for clause in it.clauses
-                     if clauses and clause.name == clauses.split(", ")[0])
-            return next(cited, link_to(items[0]) if items else "")
-        return link
-
     def index(self):
-        body = ["<h1>Reference of jj-core in Rattle</h1><p>Every public item of the libraries, "
-                "with the contract that the prover has shown. A crate uses the crates of the "
-                "layers below it.</p>"]
         shown = [[it for it in names if it in SHOWN] for names in layers()]
-        groups = [(f"Layer {len(shown) - index}", names) for index, names in enumerate(shown)]
-        tests = [it for it in SHOWN if it not in sum(shown, [])]
-        for title, names in [*groups, ("Proved callers and tests", tests)]:
-            body.append(f"<h2>{title}</h2><dl>{''.join(map(self.crate_row, names))}</dl>")
+        groups = {f"Layer {len(shown) - index}": names for index, names in enumerate(shown)}
+        groups["Proved callers and tests"] = [it for it in SHOWN if it not in sum(shown, [])]
+        rows = (f"<h2>{title}</h2><dl>{''.join(map(self.crate_row, names))}</dl>"
+                for title, names in groups.items())
         documents = (a(document_page(it), inline(title_of(it))) for it in DOCUMENTS)
-        return "".join(body) + listed(documents, "Documents")
+        return f"{INTRODUCTION}{''.join(rows)}{listed(documents, 'Documents')}"
 
     def crate_row(self, name):
         front = module_source(name, "")
@@ -349,10 +306,3 @@ class Site:
                 for crate, found in by_crate.items())
         self.add_page("words.html", "Words", "<h1>Words</h1><div id=word></div><p>The definitions "
                       f"that contracts cite, by crate.</p>{listed(rows)}")
-
-
-def cited_clauses(item, claim):
-    """The clauses of an item that a claim cites, or else the word claim."""
-    there = [it.name for it in item.clauses]
-    names = [it for _, clauses in claim.cited for it in clauses if it in there]
-    return ", ".join(dict.fromkeys(names)) or "claim"
