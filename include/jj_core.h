@@ -50,6 +50,10 @@ extern "C" {
 #define JJ_PATH (-9)
 /* A string is no expression of a file set, or not UTF-8. */
 #define JJ_EXPRESSION (-10)
+/* No id matches a prefix. */
+#define JJ_NO_MATCH (-11)
+/* Several ids match a prefix. */
+#define JJ_AMBIGUOUS (-12)
 
 /* The length of a digest. */
 #define JJ_DIGEST_LENGTH 64
@@ -112,6 +116,11 @@ int64_t jj_hex_decode(const uint8_t *text, size_t text_len, bool reverse, uint8_
  * Errors: JJ_SYNTAX, JJ_MEMORY.
  * Ownership: reads prefix, id during the call; frees all that it allocates. Threads: any. */
 int64_t jj_hex_prefix_matches(const uint8_t *prefix, size_t prefix_len, bool reverse, const uint8_t *id, size_t id_len);
+
+/* Returns the index of the only id of a list whose hex begins with these digits of either case. An id that is listed twice matches twice.
+ * O(bytes of the ids). Errors: JJ_ENDS, JJ_SYNTAX, JJ_NO_MATCH, JJ_AMBIGUOUS, JJ_MEMORY.
+ * Ownership: reads prefix, ids, ends during the call; frees all that it allocates. Threads: any. */
+int64_t jj_hex_prefix_resolve(const uint8_t *prefix, size_t prefix_len, bool reverse, const uint8_t *ids, size_t ids_len, const size_t *ends, size_t ends_len);
 
 /* Globs. */
 

@@ -146,6 +146,35 @@ static void hex(void) {
     if (is_hex && cut % 2 == 0 && is_prefix && memcmp(bytes, back, cut / 2)) fail("wrong bytes");
 }
 
+/* Ids of few values, and prefixes of a digit or more. */
+static void prefixes(void) {
+    bool reverse = draw(2), is_hex = true;
+    struct list ids = draw_list("\x01\x1f\xf0", 6, 3);
+    const char *letters = draw(8) ? (reverse ? "zykKYZ" : "01fF0") : "0g";
+    size_t len = draw(5), matching = 0, at = 0;
+    uint8_t *prefix = take(len);
+    for (size_t i = 0; i < len; i++) {
+        prefix[i] = (uint8_t)letters[draw(strlen(letters))];
+        is_hex = is_hex && digit_of(prefix[i], reverse) >= 0;
+    }
+    call_name = "hex_prefix_resolve";
+    int64_t found = jj_hex_prefix_resolve(prefix, len, reverse, ids.bytes, ids.len, ids.ends, ids.count);
+    bool is_list = divide(ids.ends, ids.count, ids.len);
+    if (!is_list || !is_hex) {
+        if (!(found == JJ_ENDS && !is_list) && !(found == JJ_SYNTAX && !is_hex)) fail("wrong status");
+        return;
+    }
+    for (size_t i = 0; i < ids.count; i++) {
+        bool matches = len <= 2 * length_of(&ids, i);
+        for (size_t d = 0; d < len && matches; d++) {
+            uint8_t byte = item_of(&ids, i)[d / 2];
+            matches = digit_of(prefix[d], reverse) == (d % 2 ? byte & 15 : byte >> 4);
+        }
+        if (matches) matching++, at = i;
+    }
+    if (found != (matching == 0 ? JJ_NO_MATCH : matching == 1 ? (int64_t)at : JJ_AMBIGUOUS)) fail("wrong id");
+}
+
 /* A pattern of letters, `?`, `*` and `{x,y}` against a string: `?` and `*` match no `/`. */
 static bool glob_matches(const char *glob, const uint8_t *string, size_t len) {
     if (!*glob) return !len;
@@ -502,7 +531,7 @@ static void graph_batches(void) {
 }
 
 int main(int argc, char **argv) {
-    static void (*const shapes[])(void) = {digests, hex, globs, filesets, walks, merges, flattening, graphs, graph_batches};
+    static void (*const shapes[])(void) = {digests, hex, prefixes, globs, filesets, walks, merges, flattening, graphs, graph_batches};
     if (argc != 3) return fprintf(stderr, "usage: fuzz SEED CALLS\n"), 2;
     state = strtoull(argv[1], NULL, 10) * 0x9e3779b97f4a7c15u + 88172645463325252u;
     for (long left = atol(argv[2]); left > 0; left--) {

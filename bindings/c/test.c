@@ -36,6 +36,11 @@ static void known_results(void) {
     EXPECT(jj_hex_decode(BYTES("01e"), false, bytes, 4) == JJ_SYNTAX && bytes[1] == 0xef);
     EXPECT(jj_hex_prefix_matches(BYTES("mlp"), true, BYTES("\xde\xad")) == 1);
     EXPECT(jj_hex_prefix_matches(BYTES("mlx"), true, BYTES("\xde\xad")) == 0);
+    EXPECT(jj_hex_prefix_resolve(BYTES("dea"), false, BYTES("\xbe\xef\xde\xad\xdf"), ITEMS(((size_t[]){2, 4, 5}))) == 1);
+    EXPECT(jj_hex_prefix_resolve(BYTES("D"), false, BYTES("\xbe\xef\xde\xad\xdf"), ITEMS(((size_t[]){2, 4, 5}))) == JJ_AMBIGUOUS);
+    EXPECT(jj_hex_prefix_resolve(BYTES("k"), true, BYTES("\xbe\xef\xde\xad\xdf"), ITEMS(((size_t[]){2, 4, 5}))) == JJ_NO_MATCH);
+    EXPECT(jj_hex_prefix_resolve(BYTES("g"), false, BYTES("a"), one, 1) == JJ_SYNTAX);
+    EXPECT(jj_hex_prefix_resolve(BYTES("6"), false, BYTES("a"), one + 1, 1) == JJ_ENDS);
     EXPECT(jj_glob_matches(BYTES("src/**/*.rs"), true, false, BYTES("src/a.rsa.rs"), ITEMS(((size_t[]){8, 12})), ITEMS(matches)) == 2 && matches[0] && !matches[1]);
     EXPECT(jj_glob_matches(BYTES("[a"), true, false, BYTES(""), one, 0, ITEMS(matches)) == JJ_SYNTAX);
     EXPECT(jj_fileset_matches(BYTES("src ~ **/*.md"), BYTES("src/a.rssrc/b.md"), ITEMS(((size_t[]){8, 16})), ITEMS(matches)) == 2 && matches[0] && !matches[1]);

@@ -123,6 +123,25 @@ class Test(unittest.TestCase):
         self.assertTrue(jj_core.hex_prefix_matches("01E", b"\x01\xef"))
         self.assertFalse(jj_core.hex_prefix_matches("01d", b"\x01\xef"))
 
+    def test_prefixes(self):
+        ids = [b"\x01\xef", b"\x01\xff", b"", b"\xab"]
+        for prefix, expected in (("01e", 0), ("01F", 1), ("a", 3), ("02", None), ("01ef0", None)):
+            self.assertEqual(jj_core.resolve_prefix(prefix, ids), expected)
+        self.assertEqual(jj_core.resolve_prefix("zyl", ids, True), 0)
+        self.assertEqual(jj_core.resolve_prefix("", [b"a"]), 0)
+        self.assertIsNone(jj_core.resolve_prefix("", []))
+        self.raises("JJ_AMBIGUOUS", "several ids begin with '01'", jj_core.resolve_prefix, "01", ids)
+        self.raises("JJ_SYNTAX", "'g' at index 1", jj_core.resolve_prefix, "0g", ids)
+        numbers = random.Random(3)
+        for _ in range(200):
+            ids = [numbers.randbytes(numbers.randrange(3)) for _ in range(numbers.randrange(5))]
+            prefix = numbers.randbytes(2).hex()[:numbers.randrange(4)]
+            wanted = [index for index, it in enumerate(ids) if it.hex().startswith(prefix)]
+            if len(wanted) > 1:
+                self.raises("JJ_AMBIGUOUS", "several ids", jj_core.resolve_prefix, prefix, ids)
+            else:
+                self.assertEqual(jj_core.resolve_prefix(prefix, ids), wanted[0] if wanted else None)
+
     def test_globs(self):
         for (separator, icase, glob, *paths), expected in rows("glob-match"):
             self.assertEqual(jj_core.glob_matches(glob, paths, separator == b"1", icase == b"1"), [it == b"true" for it in expected])

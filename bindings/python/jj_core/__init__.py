@@ -43,7 +43,7 @@ from ._library import LIBRARY, STATUSES, JjHasher
 __all__ = [
     "DIGEST_LENGTH", "BytesLike", "Graph", "Hasher", "JjError", "JjMemoryError", "JjValueError", "closest_common", "closest_common_each",
     "content_hash", "content_hash_list", "fileset_matches", "flatten", "glob_matches", "hash", "heads", "heads_each", "hex_decode", "hex_encode",
-    "hex_prefix_matches", "materialize", "merge_contents", "order", "resolve", "simplify", "walk",
+    "hex_prefix_matches", "materialize", "merge_contents", "order", "resolve", "resolve_prefix", "simplify", "walk",
 ]
 
 DIGEST_LENGTH = 64
@@ -176,6 +176,25 @@ def hex_prefix_matches(prefix: BytesLike, id: BytesLike, reverse: bool = False) 
     if status < 0:
         raise error(status, hex_fault(digits, reverse, "prefix", is_prefix=True))
     return bool(status == 1)
+
+
+def resolve_prefix(prefix: BytesLike, ids: Iterable[BytesLike], reverse: bool = False) -> Optional[int]:
+    """The index of the only id whose hex begins with these digits, of either case and any number; None if there is none.
+
+    >>> resolve_prefix("01e", [b"\\x01\\xef", b"\\x01\\xff"])
+    0
+    >>> resolve_prefix("01", [b"\\x01\\xef", b"\\x01\\xff"])
+    Traceback (most recent call last):
+    jj_core.JjValueError: JJ_AMBIGUOUS: several ids begin with '01'
+    """
+    digits, reverse, items = to_bytes(prefix, "prefix"), to_flag(reverse, "reverse"), to_bytes_list(ids, "ids")
+    status = LIBRARY.jj_hex_prefix_resolve(*string(digits), reverse, *joined(items))
+    if STATUSES.get(status) == "JJ_NO_MATCH":
+        return None
+    if status < 0:
+        is_digits = STATUSES.get(status) == "JJ_AMBIGUOUS"
+        raise error(status, f"several ids begin with {shown(digits)}" if is_digits else hex_fault(digits, reverse, "prefix", is_prefix=True))
+    return int(status)
 
 
 def glob_matches(glob: BytesLike, paths: Iterable[BytesLike], separator: bool = True, icase: bool = False) -> list[bool]:

@@ -31,6 +31,7 @@ SIGNATURES = {
     "jj_hex_encode": [BYTES, c_size_t, c_bool, BYTES, c_size_t],
     "jj_hex_decode": [BYTES, c_size_t, c_bool, BYTES, c_size_t],
     "jj_hex_prefix_matches": [BYTES, c_size_t, c_bool, BYTES, c_size_t],
+    "jj_hex_prefix_resolve": [BYTES, c_size_t, c_bool, BYTES, c_size_t, INDICES, c_size_t],
     "jj_glob_matches": [BYTES, c_size_t, c_bool, c_bool, BYTES, c_size_t, INDICES, c_size_t, BOOLS, c_size_t],
     "jj_fileset_matches": [BYTES, c_size_t, BYTES, c_size_t, INDICES, c_size_t, BOOLS, c_size_t],
     "jj_walk": [BYTES, c_size_t, INDICES, c_size_t, c_bool, BYTES, c_size_t, INDICES, c_size_t, BOOLS, c_size_t],
@@ -55,7 +56,7 @@ RETURN_NOTHING = {"jj_hasher_start", "jj_hasher_update"}
 
 # The names of the statuses, as in jj_core.h.
 STATUSES = {-1: "JJ_MEMORY", -2: "JJ_ENDS", -3: "JJ_LENGTH", -4: "JJ_SYNTAX", -5: "JJ_TERMS", -6: "JJ_CONFLICT", -7: "JJ_NODE", -8: "JJ_CYCLE",
-            -9: "JJ_PATH", -10: "JJ_EXPRESSION"}
+            -9: "JJ_PATH", -10: "JJ_EXPRESSION", -11: "JJ_NO_MATCH", -12: "JJ_AMBIGUOUS"}
 
 DIGEST_LENGTH = 64
 

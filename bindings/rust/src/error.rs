@@ -25,6 +25,10 @@ pub enum ErrorKind {
     Path,
     /// A string is no expression of a file set.
     Expression,
+    /// No id matches a prefix. [`resolve_prefix`](crate::resolve_prefix) returns `None` instead, so it does not occur.
+    NoMatch,
+    /// Several ids match a prefix.
+    Ambiguous,
     /// A status that this crate does not know: its declarations are not those of the library.
     Unknown(i64),
 }
@@ -42,6 +46,8 @@ impl ErrorKind {
             -8 => ErrorKind::Cycle,
             -9 => ErrorKind::Path,
             -10 => ErrorKind::Expression,
+            -11 => ErrorKind::NoMatch,
+            -12 => ErrorKind::Ambiguous,
             other => ErrorKind::Unknown(other),
         }
     }
@@ -122,6 +128,8 @@ impl fmt::Display for Error {
             (ErrorKind::Path, ..) => write!(f, "invalid path"),
             (ErrorKind::Expression, _, Some(length)) => write!(f, "malformed expression of {length} bytes"),
             (ErrorKind::Expression, ..) => write!(f, "malformed expression"),
+            (ErrorKind::NoMatch, ..) => write!(f, "no id matches the prefix"),
+            (ErrorKind::Ambiguous, ..) => write!(f, "several ids match the prefix"),
             (ErrorKind::Unknown(status), ..) => write!(f, "unknown status {status}"),
         }
     }

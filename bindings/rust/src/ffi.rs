@@ -23,6 +23,9 @@ extern "C" {
     pub fn jj_hex_encode(bytes: *const u8, bytes_len: usize, reverse: bool, text: *mut u8, text_len: usize) -> i64;
     pub fn jj_hex_decode(text: *const u8, text_len: usize, reverse: bool, bytes: *mut u8, bytes_len: usize) -> i64;
     pub fn jj_hex_prefix_matches(prefix: *const u8, prefix_len: usize, reverse: bool, id: *const u8, id_len: usize) -> i64;
+    pub fn jj_hex_prefix_resolve(
+        prefix: *const u8, prefix_len: usize, reverse: bool, ids: *const u8, ids_len: usize, ends: *const usize, ends_len: usize,
+    ) -> i64;
     pub fn jj_glob_matches(
         glob: *const u8, glob_len: usize, separator: bool, icase: bool, bytes: *const u8, bytes_len: usize, ends: *const usize,
         ends_len: usize, matches: *mut bool, matches_len: usize,

@@ -192,6 +192,28 @@ pub fn hex_prefix_matches(prefix: &str, reverse: bool, id: &[u8]) -> Result<bool
     number(status, digit_error(prefix, reverse)).map(|n| n == 1)
 }
 
+/// The index of the only id whose hex begins with these digits, of either case and any number, or `None` if there is none.
+///
+/// ```
+/// use jj_core_verified::{resolve_prefix, ErrorKind, Joined};
+/// let ids = Joined::new(&[[1, 0xef], [1, 0xff]]);
+/// assert_eq!((resolve_prefix("01e", false, &ids)?, resolve_prefix("2", false, &ids)?), (Some(0), None));
+/// assert_eq!(resolve_prefix("01", false, &ids).unwrap_err().kind(), ErrorKind::Ambiguous);
+/// # Ok::<(), jj_core_verified::Error>(())
+/// ```
+pub fn resolve_prefix(prefix: &str, reverse: bool, ids: &Joined) -> Result<Option<usize>, Error> {
+    let status = unsafe {
+        ffi::jj_hex_prefix_resolve(
+            prefix.as_ptr(), prefix.len(), reverse, ids.bytes.as_ptr(), ids.bytes.len(), ids.ends.as_ptr(), ids.ends.len(),
+        )
+    };
+    let explain = |kind| if kind == ErrorKind::Syntax { digit_error(prefix, reverse)(kind) } else { only(kind) };
+    match number(status, explain) {
+        Err(error) if error.kind == ErrorKind::NoMatch => Ok(None),
+        found => found.map(Some),
+    }
+}
+
 /// Parses a glob once, and returns for each byte string whether the glob matches it. With `separator`, `?` and `*` do not match `/`; with
 /// `icase`, ASCII letters match in either case. [`Joined::select`] iterates over those that match.
 ///

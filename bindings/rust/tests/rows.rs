@@ -1,7 +1,7 @@
 //! The rows of the conformance table of the libraries that apply to this crate.
 use jj_core_verified::{
     closest_common, content_hash, fileset_matches, flatten, glob_matches, hash, heads, hex_decode, hex_encode, hex_prefix_matches, order, resolve,
-    simplify, walk, Error, ErrorKind, Graph, Hasher, Joined, Walk,
+    resolve_prefix, simplify, walk, Error, ErrorKind, Graph, Hasher, Joined, Walk,
 };
 
 const TABLE: &str = include_str!("../../../crates/conformance/stdin");
@@ -125,6 +125,17 @@ fn hex() {
             assert_eq!(kind(found), wanted, "{given:?}");
         });
     }
+}
+
+#[test]
+fn prefixes() {
+    let ids = Joined::new(&[&[1, 0xef][..], &[1, 0xff], &[], &[0xab]]);
+    for (prefix, expected) in [("01e", Some(0)), ("01F", Some(1)), ("a", Some(3)), ("02", None), ("01ef0", None)] {
+        assert_eq!(resolve_prefix(prefix, false, &ids), Ok(expected), "{prefix}");
+    }
+    assert_eq!(resolve_prefix("zyl", true, &ids), Ok(Some(0)));
+    assert_eq!(kind(resolve_prefix("01", false, &ids)), Err(ErrorKind::Ambiguous));
+    assert_eq!(kind(resolve_prefix("0g", false, &ids)), Err(ErrorKind::Syntax));
 }
 
 #[test]

@@ -5,7 +5,7 @@ use Rattle.std.specs.List.{AllZip, zip}
 use Rattle.std.proofs.lemmas.List.{append-nil, length-append, take_all}
 use Rattle.std.proofs.lemmas.List.Concat.{flat_map-append}
 use Rattle.jj_core_c.specs.declared.error.Error.{Error}
-use Rattle.jj_core_c.specs.declared.error.Error.TheVariants.{Memory, Ends, Length, Syntax, Terms, Conflict, Node, Cycle, Path, Expression}
+use Rattle.jj_core_c.specs.declared.error.Error.TheVariants.{Memory, Ends, Length, Syntax, Terms, Conflict, Node, Cycle, Path, Expression, NoMatch, Ambiguous}
 use Rattle.jj_core_c.specs.ArrayGraphs.{AreAscendingHeads, AreBelow, IsAcyclicGraph, WritesFound, graph_of}
 use Rattle.jj_core_c.specs.Buffers.{Writes}
 use Rattle.jj_core_c.specs.GraphBatches.{AreHeadsOfEach, AreSets, FailsBoth, IsBatchCause, IsRoomCause, WritesJoined, WritesLists, ends_of, joined}
@@ -62,6 +62,8 @@ module _ (targets ends : List ℕ) (AreDivided AreNodes IsValid : Type 0) (AreRe
   cause Cycle none = absurd none
   cause Path none = absurd none
   cause Expression none = absurd none
+  cause NoMatch none = absurd none
+  cause Ambiguous none = absurd none
 
   pub outcome : (result : Result ℕ Error) → MatchResult result (WritesLists found old new old_ends new_ends) (FailsBoth old new old_ends new_ends (IsRoomCause found room end_room))
       → MatchResult result (Accepts IsValid (WritesJoined AreResults old new old_ends new_ends)) (FailsBoth old new old_ends new_ends (IsBatchCause targets ends AreDivided AreNodes AreResults room end_room))

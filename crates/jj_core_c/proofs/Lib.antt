@@ -3,6 +3,7 @@ mod Flattened
 mod TermMerges
 mod ResolvedTerms
 mod Flags
+mod IdPrefixes
 mod TreeWalks
 mod GraphResults
 mod JoinedResults

@@ -4,6 +4,7 @@ pub mod Pieces
 pub mod Hashers
 pub mod Causes
 pub mod HexResults
+pub mod IdPrefixes
 pub mod MergeResults
 pub mod MergeTerms
 pub mod FlattenResults

@@ -2,9 +2,9 @@
 -- Cited by contracts of public items: Accepts, Returns.
 use Rattle.std.specs.Prelude.{◌≡◌, ℕ, ℤ, pos, negsuc, Result, Ok, Err, MatchResult}
 use Rattle.jj_core_c.specs.declared.error.Error.{Error}
-use Rattle.jj_core_c.specs.declared.error.Error.TheVariants.{Memory, Ends, Length, Syntax, Terms, Conflict, Node, Cycle, Path, Expression}
+use Rattle.jj_core_c.specs.declared.error.Error.TheVariants.{Memory, Ends, Length, Syntax, Terms, Conflict, Node, Cycle, Path, Expression, NoMatch, Ambiguous}
 
--- the status of an error: -1 to -10
+-- the status of an error: -1 to -12
 abbrev pub code_of : Error → ℤ
 code_of Memory = negsuc 0
 code_of Ends = negsuc 1
@@ -16,6 +16,8 @@ code_of Node = negsuc 6
 code_of Cycle = negsuc 7
 code_of Path = negsuc 8
 code_of Expression = negsuc 9
+code_of NoMatch = negsuc 10
+code_of Ambiguous = negsuc 11
 
 -- the status of an outcome
 abbrev pub status_of : Result ℕ Error → ℤ

@@ -28,6 +28,10 @@ pub enum Error {
     Path,
     /// A string is no expression of a file set.
     Expression,
+    /// No id matches a prefix.
+    NoMatch,
+    /// Several ids match a prefix.
+    Ambiguous,
 }
 
 impl From<AllocError> for Error {
@@ -61,6 +65,8 @@ fn code(error: Error) -> i64
         Error::Cycle => -8,
         Error::Path => -9,
         Error::Expression => -10,
+        Error::NoMatch => -11,
+        Error::Ambiguous => -12,
     }
 }
 

@@ -1,6 +1,8 @@
 //! Hex and reverse hex: encoding, decoding, and prefixes of ids.
-ghost use Rattle.std.specs.Prelude.{◌≡◌, ◌*◌, length, IfOk, IfSome, IfNone, MatchResult, string_bytes, true, false};
+ghost use Rattle.std.specs.Prelude.{◌≡◌, ◌*◌, length, IfOk, IfSome, IfNone, MatchResult, string_bytes, true, false, if◌then◌else◌};
+ghost use Rattle.std.specs.Str.{str_to_ascii_lowercase};
 ghost use Rattle.jj_content.specs.Hex.{encode_with, is_hex, IsDecoding};
+ghost use Rattle.jj_ids.specs.HexPrefixes.{to_reverse_hex};
 ghost use Rattle.jj_core_c.specs.Buffers.{Fails, Writes};
 ghost use Rattle.jj_core_c.specs.Causes.{IsBufferCause};
 ghost use Rattle.jj_core_c.specs.HexResults.{IsDecodingCause, IsPrefixCause, ReportsPrefix, WritesDecoded, alphabet, begins_with};
@@ -62,6 +64,26 @@ fn decode(alloc: Global, text: &[u8], reverse: bool, bytes: &mut [u8]) -> Result
     }
 }
 
+// Parses a prefix. Returns `None` if it is not hex.
+pub(crate) fn parse_prefix(
+    alloc: Global,
+    prefix: &[u8],
+    reverse: bool,
+) -> Result<Option<HexPrefix>, AllocError>
+    ensures none { IfOk result (λ read. IfNone read
+        (is_hex (alphabet reverse) prefix.now ≡ false)) }
+    ensures some { IfOk result (λ read. IfSome read (λ parsed.
+        (is_hex (alphabet reverse) prefix.now ≡ true)
+        × ((if reverse then to_reverse_hex parsed else parsed)
+        ≡ str_to_ascii_lowercase prefix.now))) }
+{
+    if reverse {
+        HexPrefix::try_from_reverse_hex(alloc, prefix)
+    } else {
+        HexPrefix::try_from_hex(alloc, prefix)
+    }
+}
+
 // Parses a prefix and compares it with an id. Returns `None` if it is not hex.
 fn matches_prefix(
     alloc: Global,
@@ -75,12 +97,7 @@ fn matches_prefix(
         (is_hex (alphabet reverse) prefix.now ≡ true)
         × (matched ≡ begins_with (alphabet reverse) id.now prefix.now))) }
 {
-    let parsed = if reverse {
-        HexPrefix::try_from_reverse_hex(alloc, prefix)?
-    } else {
-        HexPrefix::try_from_hex(alloc, prefix)?
-    };
-    let Some(parsed) = parsed else {
+    let Some(parsed) = parse_prefix(alloc, prefix, reverse)? else {
         return Ok(None);
     };
     let id = CommitId::from_bytes(alloc, id)?;

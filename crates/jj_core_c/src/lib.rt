@@ -12,6 +12,7 @@ mod graph_batches;
 mod graphs;
 mod hasher;
 mod hex;
+mod id_prefixes;
 mod joined_lists;
 mod merges;
 mod paths;

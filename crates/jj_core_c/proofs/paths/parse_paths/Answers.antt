@@ -9,7 +9,7 @@ use Rattle.std.proofs.Math.ListN.{length-map}
 use Rattle.jj_paths.specs.Names.{path_of}
 use Rattle.jj_paths.specs.Paths.{components}
 use Rattle.jj_core_c.specs.declared.error.Error.{Error}
-use Rattle.jj_core_c.specs.declared.error.Error.TheVariants.{Memory, Ends, Length, Syntax, Terms, Conflict, Node, Cycle, Path, Expression}
+use Rattle.jj_core_c.specs.declared.error.Error.TheVariants.{Memory, Ends, Length, Syntax, Terms, Conflict, Node, Cycle, Path, Expression, NoMatch, Ambiguous}
 use Rattle.jj_core_c.specs.JoinedPaths.{ArePaths, IsPath, IsPathCause, paths_of}
 use Rattle.jj_core_c.specs.Pieces.{pieces_of}
 use Rattle.jj_core_c.proofs.PieceLists.{length_pieces, map_next, take_next}
@@ -53,6 +53,8 @@ of_whole Part Whole has Conflict cause = absurd cause
 of_whole Part Whole has Node cause = absurd cause
 of_whole Part Whole has Cycle cause = absurd cause
 of_whole Part Whole has Expression cause = absurd cause
+of_whole Part Whole has NoMatch cause = absurd cause
+of_whole Part Whole has Ambiguous cause = absurd cause
 
 pub returns-in_err-path-clause-paths : goal.returns-in_err-path-clause-paths
 returns-in_err-path-clause-paths c =
