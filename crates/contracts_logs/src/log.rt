@@ -9,6 +9,7 @@ ghost use Rattle.jj_log.specs.Edges.{AreEdges, AreTargets};
 ghost use Rattle.jj_log.specs.InputLines.{AreCommitsOf, IsParseFault};
 ghost use Rattle.jj_log.specs.Reports.{report_text, status_of};
 ghost use Rattle.jj_log.specs.Runs.{DrawingsOf, IsInputFault};
+ghost use Rattle.contracts_logs.specs.Defaults.{default_options};
 ghost use Rattle.jj_log.specs.declared.fault.Fault.{Fault as FaultValue};
 
 use jj_dag::dense_set::DenseSet;
@@ -71,7 +72,7 @@ pub fn start<R: Source, W: Sink, E: Sink>(
     errors: &mut E,
 ) -> u8
     ensures { (ended : Result (Unit {0}) (Failure FaultValue))
-        × EndsBy (DrawingsOf 500) (IsInputFault 500)
+        × EndsBy (DrawingsOf default_options) (IsInputFault default_options)
         (streams (R.remaining reader.old) (W.contents writer.old))
         (streams (R.remaining reader.new) (W.contents writer.new)) ended
         × (R.has_failed reader.old ≡ false → R.has_failed reader.new ≡ is_read_failure ended)

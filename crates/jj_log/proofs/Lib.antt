@@ -14,3 +14,5 @@ mod WideRows
 mod Interning
 mod ReadLines
 mod LogFaults
+mod ReadBack
+mod NextWord

@@ -3,12 +3,13 @@
 use Rattle.std.specs.Prelude.{◌≡◌, ℕ, ◌+◌, ◌==◌, Bool, true, false, not, List, [], ◌∷◌, ◌++◌}
 use Rattle.std.specs.Prelude.{All, MatchOption, filter, map, reverse, length, string_bytes}
 use Rattle.std.specs.List.{AllZip, slice_split}
-use Rattle.jj_log.specs.LogDrawings.{IsDrawing}
+use Rattle.jj_log.specs.LogDrawings.{IsStyledDrawing}
 use Rattle.jj_log.specs.declared.commits.Commit.{Commit}
 use Rattle.jj_log.specs.Reports.{IsFaultAt}
 use Rattle.jj_log.specs.declared.fault.Fault.{Fault}
 use Rattle.jj_log.specs.declared.fault.LineFault.{LineFault}
 use Rattle.jj_log.specs.declared.fault.LineFault.TheVariants.{CarriageReturn, MissingParents, BadName}
+use Rattle.jj_log.specs.declared.style.Style.{Style}
 
 -- the byte is not in the string
 abbrev pub Lacks : ℕ → List ℕ → Type 0
@@ -99,7 +100,7 @@ IsFaultOf lines fault = (before : List (ℕ × List ℕ)) × (number : ℕ) × (
 abbrev pub IsParseFault : List ℕ → Fault → Type 0
 IsParseFault input fault = IsFaultOf (commit_lines input) fault
 
--- the drawing of the commits of the input in at most `most` columns
-abbrev pub DrawsInput : (most : ℕ) → List ℕ → List ℕ → Type 0
-DrawsInput most input drawing = (commits : List Commit) × (numbers : List ℕ)
-    × AreCommitsOf input commits numbers × IsDrawing most commits drawing
+-- the drawing of the commits of the input in a style, in at most `most` columns
+abbrev pub DrawsInput : Style → (most : ℕ) → List ℕ → List ℕ → Type 0
+DrawsInput style most input drawing = (commits : List Commit) × (numbers : List ℕ)
+    × AreCommitsOf input commits numbers × IsStyledDrawing style most commits drawing

@@ -4,6 +4,7 @@ pub mod Logs
 pub mod Columns
 pub mod Failures
 pub mod Labels
+pub mod Styles
 pub mod Drawing
 pub mod Orders
 pub mod Targets
@@ -11,5 +12,7 @@ pub mod LogItems
 pub mod Numbering
 pub mod LogDrawings
 pub mod InputLines
+pub mod Fields
+pub mod CommandLines
 pub mod Runs
 pub mod Reports

@@ -1,8 +1,8 @@
 -- The drawing of the log of commits that are known by names, and its errors.
--- Cited by contracts of public items: IsDrawing, IsLogError.
+-- Cited by contracts of public items: IsDrawing, IsLogError, IsStyledDrawing.
 use Rattle.std.specs.Prelude.{ℕ, List, [], map}
 use Rattle.jj_log.specs.Columns.{AreRows, node_of_row}
-use Rattle.jj_log.specs.Drawing.{AreDrawn}
+use Rattle.jj_log.specs.Drawing.{AreStyled}
 use Rattle.jj_log.specs.Failures.{IsRowsError}
 use Rattle.jj_log.specs.Labels.{label_of}
 use Rattle.jj_log.specs.Logs.{IsGroupedLog}
@@ -12,17 +12,24 @@ use Rattle.jj_log.specs.declared.commits.NumberedCommit.{NumberedCommit}
 use Rattle.jj_log.specs.declared.fault.LogError.{LogError}
 use Rattle.jj_log.specs.declared.fault.LogError.TheVariants.{Memory, RepeatedName}
 use Rattle.jj_log.specs.declared.layout.Row.{Row}
+use Rattle.jj_log.specs.declared.style.Style.{Style}
+use Rattle.jj_log.specs.declared.style.Style.TheVariants.{Ascii}
 
 -- the commits were numbered by their names, their log, with branches together, was laid out in
 -- rows of at most `most` columns, and these were drawn with the labels of the commits
-pub record IsDrawing (most : ℕ) (commits : List Commit) (drawing : List ℕ) : Type 0 where
+pub record IsStyledDrawing (style : Style) (most : ℕ) (commits : List Commit) (drawing : List ℕ)
+    : Type 0 where
   pub numbered : List NumberedCommit
   pub are_numbered : AreNumbered commits numbered
   pub rows : List Row
   pub log : IsGroupedLog numbered (map node_of_row rows)
   pub last : List ℕ
   pub columns : AreRows most [] rows last
-  pub drawn : AreDrawn (label_of commits) rows drawing
+  pub drawn : AreStyled style (label_of commits) rows drawing
+
+-- that in ASCII characters
+abbrev pub IsDrawing : (most : ℕ) → List Commit → List ℕ → Type 0
+IsDrawing = IsStyledDrawing Ascii
 
 -- memory ran out, or two commits have one name, or else the numbered commits have an error
 abbrev pub IsLogError : (most : ℕ) → List Commit → LogError → Type 0

@@ -7,7 +7,7 @@ use Rattle.jj_filter.specs.Reports.{report_line}
 use Rattle.jj_filter.specs.Runs.{ended_status, ended_text}
 use Rattle.jj_filter.specs.declared.failure.Failure.{Failure}
 use Rattle.jj_log.specs.declared.fault.Fault.{Fault}
-use Rattle.jj_log.specs.declared.fault.Fault.TheVariants.{NotUtf8, Line}
+use Rattle.jj_log.specs.declared.fault.Fault.TheVariants.{NotUtf8, Fields, Line}
 use Rattle.jj_log.specs.declared.fault.LineFault.{LineFault}
 use Rattle.jj_log.specs.declared.fault.LineFault.TheVariants.{CarriageReturn, MissingParents, BadName, RepeatedName, Cycle, TooWide}
 
@@ -18,10 +18,13 @@ line_fault_text MissingParents = codes "no TAB after the name; TABs separate fie
 line_fault_text BadName = codes "no name, or one with a blank"
 line_fault_text RepeatedName = codes "repeated name"
 line_fault_text Cycle = codes "cycle of parents"
-line_fault_text TooWide = codes "more columns than --columns allows; the default is 500"
+line_fault_text TooWide = codes "more columns than --columns allows"
 
 abbrev pub fault_text : Fault → List ℕ
 fault_text NotUtf8 = codes "input is not UTF-8"
+fault_text (Fields at) = codes "byte " ++ decimal at
+    ++ codes ": expected three fields a commit, each ended by NUL"
+    ++ codes ", as of git log -z --format=%h%x00%p%x00%s"
 fault_text (Line line kind quoted) =
     codes "line " ++ decimal line ++ string_bytes quoted ++ line_fault_text kind
 

@@ -44,6 +44,10 @@ pub enum LogError {
 #[derive(Debug, Drop)]
 pub enum Fault {
     NotUtf8,
+    /// The input is not of fields that end in NUL, three a commit, from this offset on.
+    Fields {
+        at: usize,
+    },
     /// `quoted` is the line, or the name of its commit, as the message quotes it.
     Line {
         line: usize,
@@ -62,7 +66,7 @@ impl LineFault {
             LineFault::BadName => "no name, or one with a blank",
             LineFault::RepeatedName => "repeated name",
             LineFault::Cycle => "cycle of parents",
-            LineFault::TooWide => "more columns than --columns allows; the default is 500",
+            LineFault::TooWide => "more columns than --columns allows",
         }
     }
 }
@@ -95,6 +99,12 @@ impl Report for Fault {
     fn parts<'a>(&'a self, digits: &'a mut Buffer) -> (&'a str, &'a str, &'a str, &'a str) {
         match self {
             Fault::NotUtf8 => ("input is not UTF-8", "", "", ""),
+            Fault::Fields { at } => (
+                "byte ",
+                digits.format(*at),
+                ": expected three fields a commit, each ended by NUL",
+                ", as of git log -z --format=%h%x00%p%x00%s",
+            ),
             Fault::Line { line, kind, quoted } => {
                 (
                     "line ",

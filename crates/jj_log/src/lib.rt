@@ -1,9 +1,11 @@
-//! A log of commits as an ASCII graph.
+//! A log of commits as a graph of characters.
 #![tactic(auto)]
 
+pub mod arguments;
 pub mod commits;
 pub mod drawing;
 pub mod fault;
+pub mod fields;
 pub mod glyphs;
 pub mod grouping;
 pub mod input;
@@ -12,4 +14,5 @@ pub mod log;
 pub mod numbering;
 pub mod ordering;
 pub mod program;
+pub mod style;
 pub mod targets;

@@ -1,19 +1,20 @@
 //! The log of a list of commits.
 ghost use Rattle.std.specs.Prelude.{◌≡◌, [], ℕ, List, map, IfOk, IfErr, string_bytes};
 ghost use Rattle.jj_log.specs.Columns.{AreRows, node_of_row};
-ghost use Rattle.jj_log.specs.Drawing.{AreDrawn};
+ghost use Rattle.jj_log.specs.Drawing.{AreDrawn, AreStyled};
 ghost use Rattle.jj_log.specs.Failures.{IsRowsError};
-ghost use Rattle.jj_log.specs.LogDrawings.{IsDrawing, IsLogError};
+ghost use Rattle.jj_log.specs.LogDrawings.{IsDrawing, IsLogError, IsStyledDrawing};
 ghost use Rattle.jj_log.specs.Logs.{IsGroupedLog};
 ghost use Rattle.jj_log.specs.Labels.{label_of};
 ghost use Rattle.jj_log.specs.declared.layout.Row.{Row};
 
 use crate::commits::{Commit, NumberedCommit};
-use crate::drawing::push_row;
+use crate::drawing::push_styled_row;
 use crate::fault::LogError;
 use crate::grouping::log_nodes;
 use crate::layout::{Row, rows};
 use crate::numbering::number_commits;
+use crate::style::Style;
 use std::alloc::{AllocError, Global};
 
 /// Returns the log of these commits in rows: each visible commit once, with its edges, and before
@@ -51,27 +52,55 @@ fn label_at(commits: &[Commit], number: usize) -> &str
     }
 }
 
-/// Draws rows, with the labels of these commits. Fails if memory runs out.
-pub fn draw_rows(alloc: Global, rows: &[Row], commits: &[Commit]) -> Result<String, AllocError>
+/// Draws rows in a style, with the labels of these commits. Fails if memory runs out.
+pub fn draw_styled_rows(
+    alloc: Global,
+    rows: &[Row],
+    commits: &[Commit],
+    style: Style,
+) -> Result<String, AllocError>
     ensures { IfOk result (λ drawing.
-        AreDrawn (label_of commits.now) rows.now (string_bytes drawing)) }
+        AreStyled style (label_of commits.now) rows.now (string_bytes drawing)) }
 {
     let mut drawing = String::new(alloc);
     for row in rows {
-        push_row(&mut drawing, row, label_at(commits, row.node))?;
+        push_styled_row(&mut drawing, style, row, label_at(commits, row.node))?;
     }
     Ok(drawing)
 }
 
-/// Draws the log of these commits. Fails with `RepeatedName` of an earlier commit if two commits
-/// have one name, with `Cycle` of a commit on a cycle of parents, with `TooWide` of the first
-/// commit whose row needs more than `max_columns` columns, and with `Memory` if memory runs out.
+/// Draws rows in ASCII characters, with the labels of these commits. Fails if memory runs out.
+pub fn draw_rows(alloc: Global, rows: &[Row], commits: &[Commit]) -> Result<String, AllocError>
+    ensures { IfOk result (λ drawing.
+        AreDrawn (label_of commits.now) rows.now (string_bytes drawing)) }
+{
+    draw_styled_rows(alloc, rows, commits, Style::Ascii)
+}
+
+/// Draws the log of these commits in a style. Fails with `RepeatedName` of an earlier commit if two
+/// commits have one name, with `Cycle` of a commit on a cycle of parents, with `TooWide` of the
+/// first commit whose row needs more than `max_columns` columns, and with `Memory` if memory runs
+/// out.
+pub fn draw_styled_log(
+    alloc: Global,
+    commits: &[Commit],
+    max_columns: usize,
+    style: Style,
+) -> Result<String, LogError>
+    ensures drawing { IfOk result (λ drawing.
+        IsStyledDrawing style max_columns commits.now (string_bytes drawing)) }
+    ensures error { IfErr result (IsLogError max_columns commits.now) }
+{
+    let numbered = number_commits(alloc, commits)?;
+    let rows = log_rows(alloc, &numbered, max_columns)?;
+    Ok(draw_styled_rows(alloc, &rows, commits, style)?)
+}
+
+/// Draws the log of these commits in ASCII characters. Fails as `draw_styled_log` does.
 pub fn draw_log(alloc: Global, commits: &[Commit], max_columns: usize) -> Result<String, LogError>
     ensures drawing { IfOk result (λ drawing.
         IsDrawing max_columns commits.now (string_bytes drawing)) }
     ensures error { IfErr result (IsLogError max_columns commits.now) }
 {
-    let numbered = number_commits(alloc, commits)?;
-    let rows = log_rows(alloc, &numbered, max_columns)?;
-    Ok(draw_rows(alloc, &rows, commits)?)
+    draw_styled_log(alloc, commits, max_columns, Style::Ascii)
 }

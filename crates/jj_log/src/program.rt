@@ -1,5 +1,5 @@
 //! Entry points of the program: the log as a filter, and the command line.
-ghost use Rattle.std.specs.Prelude.{◌≡◌, ◌⊎◌, ℕ, List, Result, IfOk, IfErr, MatchBool, MatchOption, false, get_or, string_bytes};
+ghost use Rattle.std.specs.Prelude.{◌≡◌, ◌⊎◌, ℕ, List, Result, IfOk, IfErr, MatchBool, false, get_or, string_bytes};
 ghost use Rattle.jj_files.specs.Streams.{streams};
 ghost use Rattle.jj_filter.specs.Reports.{Reports};
 ghost use Rattle.jj_filter.specs.Runs.{EndsBy, IsInputFailure, is_read_failure, is_write_failure};
@@ -8,13 +8,18 @@ ghost use Rattle.jj_log.specs.InputLines.{AreCommitsOf, DrawsInput};
 ghost use Rattle.jj_log.specs.Labels.{name_of};
 ghost use Rattle.jj_log.specs.LogDrawings.{IsLogError};
 ghost use Rattle.jj_log.specs.Reports.{IsFaultAt, report_text, status_of};
-ghost use Rattle.jj_log.specs.Runs.{AllowsColumns, DrawingsOf, IsColumnsOption, IsInputFault};
+ghost use Rattle.jj_log.specs.CommandLines.{Asks};
+ghost use Rattle.jj_log.specs.Runs.{DrawsGiven, DrawingsOf, IsInputFault, IsLinesFault};
+ghost use Rattle.jj_log.specs.declared.arguments.LogOptions.{LogOptions as LogOptionsValue};
 ghost use Rattle.jj_log.specs.declared.fault.Fault.{Fault};
 
+use crate::arguments::{LogOptions, Task, UsageError, options_of, parse_words, word_at};
 use crate::commits::Commit;
 use crate::fault::{Fault, LineFault, LogError, fault_at};
+use crate::fields::lines_of_fields;
 use crate::input::parse_commits;
-use crate::log::draw_log;
+use crate::log::draw_styled_log;
+use crate::style::Style;
 use jj_excerpts::excerpt;
 use jj_files::file_util::{Sink, Source};
 use jj_filter::arguments::VERSION;
@@ -55,7 +60,7 @@ fn commit_fault(
 
 fn failure_of(alloc: Global, error: LogError, commits: &[Commit], lines: &[usize]) -> Failure<Fault>
     ensures { (most : ℕ) (input : List ℕ) → AreCommitsOf input commits.now lines.now
-        → IsLogError most commits.now error → IsInputFailure (IsInputFault most input) result }
+        → IsLogError most commits.now error → IsInputFailure (IsLinesFault most input) result }
 {
     match error {
         LogError::Memory => Failure::Memory,
@@ -67,61 +72,75 @@ fn failure_of(alloc: Global, error: LogError, commits: &[Commit], lines: &[usize
     }
 }
 
-// Returns the drawing of the commits of the input.
-fn output(alloc: Global, input: &[u8], max_columns: usize) -> Result<String, Failure<Fault>>
+// Returns the drawing of the commits of the lines of the input.
+fn drawn_lines(
+    alloc: Global,
+    input: &[u8],
+    max_columns: usize,
+    style: Style,
+) -> Result<String, Failure<Fault>>
     ensures draws { IfOk result (λ drawing.
-        DrawsInput max_columns input.now (string_bytes drawing)) }
-    ensures error { IfErr result (IsInputFailure (IsInputFault max_columns input.now)) }
+        DrawsInput style max_columns input.now (string_bytes drawing)) }
+    ensures error { IfErr result (IsInputFailure (IsLinesFault max_columns input.now)) }
 {
     let Ok(input) = str::from_utf8(input) else {
         return Err(Failure::Input(Fault::NotUtf8));
     };
     let (commits, lines) = parse_commits(alloc, input)?;
-    match draw_log(alloc, &commits, max_columns) {
+    match draw_styled_log(alloc, &commits, max_columns, style) {
         Ok(drawing) => Ok(drawing),
         Err(error) => Err(failure_of(alloc, error, &commits, &lines)),
     }
 }
 
-/// The filter of `jj-log`: draws the commits of the lines of the input in at most `max_columns`
-/// columns.
-#[derive(Clone, Copy, Debug)]
-pub struct Log {
-    pub max_columns: usize,
+// Returns the drawing of the commits of the input.
+fn output(alloc: Global, input: &[u8], options: LogOptions) -> Result<String, Failure<Fault>>
+    ensures draws { IfOk result (λ drawing.
+        DrawsGiven options input.now (string_bytes drawing)) }
+    ensures error { IfErr result (IsInputFailure (IsInputFault options input.now)) }
+{
+    if options.nul {
+        let lines = lines_of_fields(alloc, input)?;
+        drawn_lines(alloc, &lines, options.max_columns, options.style)
+    } else {
+        drawn_lines(alloc, input, options.max_columns, options.style)
+    }
 }
 
-impl Filter for Log {
-    ghost use Rattle.jj_log.specs.InputLines.{DrawsInput};
-    ghost use Rattle.jj_log.specs.Runs.{IsInputFault};
+impl Filter for LogOptions {
+    ghost use Rattle.jj_log.specs.Runs.{DrawsGiven, IsInputFault};
 
     type Outcome = ();
 
     type Fault = Fault;
 
-    ghost yields = { λ log input drawing _. DrawsInput log.max_columns input drawing };
+    ghost yields = { λ options input drawing _. DrawsGiven options input drawing };
 
-    ghost fails = { λ log input fault. IsInputFault log.max_columns input fault };
+    ghost fails = { λ options input fault. IsInputFault options input fault };
 
     fn output(&self, alloc: Global, input: &[u8]) -> Result<(Vec<u8>, ()), Failure<Fault>> {
-        Ok((output(alloc, input, self.max_columns)?.into_bytes(), ()))
+        Ok((output(alloc, input, *self)?.into_bytes(), ()))
     }
 }
 
 /// The most columns without `--columns`.
-pub const DEFAULT_COLUMNS: usize = 500;
+pub const DEFAULT_COLUMNS: usize = usize::MAX;
 
 /// The name in messages.
 pub const NAME: &str = "jj-log";
 
-const SYNOPSIS: &str = "usage: jj-log [--columns N] < COMMITS\n";
+const SYNOPSIS: &str = "usage: jj-log [-z] [--columns N] [--style STYLE] < COMMITS\n";
 
 const HELP: &str = "
 Draws commits as a graph. A line is a commit: its name, a TAB, its parents, separated by blanks, a
 TAB, and its label. A commit without the second TAB is not drawn.
 
   git log --format='%h%x09%p%x09%h %s' | jj-log
+  git log -z --format='%h%x00%p%x00%h %s' | jj-log -z
 
-  --columns N      at most N columns (500)
+  -z, --null       each field ends in NUL, three a commit
+  --columns N      fail if a row needs more than N columns
+  --style STYLE    ascii (the default) or unicode
   -h, --help       this help
   -V, --version    the version
 
@@ -131,10 +150,9 @@ Status: 0, 1 after a fault, 2 after a wrong option.
 
 /// Runs the program with these arguments (without the program's name), and returns its exit status.
 ///
-/// Without arguments, or with `--columns N`, it draws the commits of the input in at most 500 or N
-/// columns. It returns 0 when the drawing was written, 1 after a failure, with a line about it on
-/// `errors` unless the output was closed, and 2 after a wrong argument. A failing `errors` does not
-/// change the status.
+/// It draws the commits of the input, and returns 0 when the drawing was written, 1 after a failure,
+/// with a line about it on `errors` unless the output was closed, and 2 after a wrong argument. A
+/// failing `errors` does not change the status.
 pub fn start<R: Source, W: Sink, E: Sink>(
     alloc: Global,
     words: &[String],
@@ -142,11 +160,11 @@ pub fn start<R: Source, W: Sink, E: Sink>(
     writer: &mut W,
     errors: &mut E,
 ) -> u8
-    // If the arguments allow a number of columns, the filter ran with it; status and line are those
-    // of how the run ended.
-    ensures run { (most : ℕ) → AllowsColumns words.now most
+    // If the arguments ask for a drawing, the filter ran with their options; status and line are
+    // those of how the run ended.
+    ensures run { (options : LogOptionsValue) → Asks words.now options
         → (ended : Result (Unit {0}) (Failure Fault))
-        × EndsBy (DrawingsOf most) (IsInputFault most)
+        × EndsBy (DrawingsOf options) (IsInputFault options)
         (streams (R.remaining reader.old) (W.contents writer.old))
         (streams (R.remaining reader.new) (W.contents writer.new)) ended
         × (R.has_failed reader.old ≡ false → R.has_failed reader.new ≡ is_read_failure ended)
@@ -155,76 +173,82 @@ pub fn start<R: Source, W: Sink, E: Sink>(
         × Reports (E.contents errors.old) (E.contents errors.new) (E.has_failed errors.new)
         (report_text ended) }
     // With other arguments nothing is read.
-    ensures other { ((most : ℕ) → ¬ (AllowsColumns words.now most))
+    ensures other { ((options : LogOptionsValue) → ¬ (Asks words.now options))
         → (R.remaining reader.new ≡ R.remaining reader.old)
         × ((result ≡ 0) ⊎ (result ≡ 2)) }
 {
-    match columns_of(words) {
-        Some(max_columns) => {
-            filter::start(alloc, NAME, &Log { max_columns }, reader, writer, errors)
-        }
+    match options_of(words) {
+        Some(options) => filter::start(alloc, NAME, &options, reader, writer, errors),
         None => perform(alloc, words, writer, errors),
     }
 }
 
 /// Returns whether the program reads commits if it is called with these arguments.
 pub fn reads(words: &[String]) -> bool
-    ensures { MatchBool result ((most : ℕ) × AllowsColumns words.now most)
-        ((most : ℕ) → ¬ (AllowsColumns words.now most)) }
+    ensures { MatchBool result ((options : LogOptionsValue) × Asks words.now options)
+        ((options : LogOptionsValue) → ¬ (Asks words.now options)) }
 {
-    columns_of(words).is_some()
+    options_of(words).is_some()
 }
 
-// Returns the greatest number of columns that the command line allows.
-fn columns_of(words: &[String]) -> Option<usize>
-    ensures { MatchOption result ((most : ℕ) → ¬ (AllowsColumns words.now most))
-        (AllowsColumns words.now) }
-{
-    match words {
-        [] => Some(DEFAULT_COLUMNS),
-        [option, value] => parse_columns(option.as_str(), value.as_str()),
-        _ => None,
-    }
-}
-
-fn parse_columns(option: &str, value: &str) -> Option<usize>
-    ensures { MatchOption result ((most : ℕ) → ¬ (IsColumnsOption option.now value.now most))
-        (IsColumnsOption option.now value.now) }
-{
-    if option == "--columns" {
-        value.parse::<usize>().ok()
-    } else {
-        None
-    }
-}
-
+// Prints the help or the version, or reports the wrong word.
 fn perform<W: Sink, E: Sink>(alloc: Global, words: &[String], writer: &mut W, errors: &mut E) -> u8
     ensures { (result ≡ 0) ⊎ (result ≡ 2) }
 {
-    let word = words.first().map_or("", String::as_str);
-    if word == "--columns" {
-        write_parts(
-            errors,
-            &[
-                "jj-log: --columns needs a number, as in --columns 200\n",
-                SYNOPSIS,
-            ],
-        );
-        return 2;
+    match parse_words(words) {
+        Ok(line) => match line.task {
+            Task::Help => {
+                write_parts(writer, &[SYNOPSIS, HELP]);
+                0
+            }
+            Task::Version => {
+                write_parts(writer, &["jj-log in Rattle ", VERSION, "\n"]);
+                0
+            }
+            Task::Draw => {
+                report_no_number(errors);
+                2
+            }
+        },
+        Err(error) => {
+            report_usage(alloc, error, words, errors);
+            2
+        }
     }
-    if word == "-h" || word == "--help" {
-        write_parts(writer, &[SYNOPSIS, HELP]);
-        return 0;
+}
+
+fn report_no_number<E: Sink>(errors: &mut E) {
+    let problem = "jj-log: --columns needs a number, as in --columns 200\n";
+    write_parts(errors, &[problem, SYNOPSIS]);
+}
+
+fn report_usage<E: Sink>(alloc: Global, error: UsageError, words: &[String], errors: &mut E) {
+    match error {
+        UsageError::NoColumns => report_no_number(errors),
+        UsageError::NoStyle => {
+            write_parts(
+                errors,
+                &["jj-log: --style needs ascii or unicode\n", SYNOPSIS],
+            );
+        }
+        UsageError::UnknownArgument(index) => {
+            report_word(alloc, "jj-log: unknown argument ", words, index, errors);
+        }
+        UsageError::UnknownStyle(index) => {
+            let problem = "jj-log: --style needs ascii or unicode, not ";
+            report_word(alloc, problem, words, index, errors);
+        }
     }
-    if word == "-V" || word == "--version" {
-        write_parts(writer, &["jj-log in Rattle ", VERSION, "\n"]);
-        return 0;
+}
+
+fn report_word<E: Sink>(
+    alloc: Global,
+    problem: &str,
+    words: &[String],
+    index: usize,
+    errors: &mut E,
+) {
+    if let Ok(word) = excerpt(alloc, word_at(words, index).as_bytes()) {
+        write_parts(errors, &[problem, word.as_str(), "\n", SYNOPSIS]);
     }
-    if let Ok(word) = excerpt(alloc, word.as_bytes()) {
-        write_parts(
-            errors,
-            &["jj-log: unknown argument ", word.as_str(), "\n", SYNOPSIS],
-        );
-    }
-    2
 }
