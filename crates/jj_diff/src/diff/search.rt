@@ -261,6 +261,106 @@ fn search_span(
     split(matches, spans, span, &chain)
 }
 
+// Returns the index after the last token before `end` that has no counterpart, or 0.
+fn last_unmatched(matches: &[usize], end: usize) -> usize {
+    for index in (0..end).rev() {
+        if at(matches, index) == NONE {
+            return index.saturating_add(1);
+        }
+    }
+    0
+}
+
+// Returns the index of the first of the tokens without counterpart that end at `end`.
+fn group_start(matches: &[usize], end: usize) -> usize {
+    for index in (0..end).rev() {
+        if at(matches, index) != NONE {
+            return index.saturating_add(1);
+        }
+    }
+    0
+}
+
+// Returns the index after the tokens without counterpart that start at `start`.
+fn group_end(matches: &[usize], start: usize) -> usize {
+    for index in start..matches.len() {
+        if at(matches, index) != NONE {
+            return index;
+        }
+    }
+    matches.len()
+}
+
+// Slides a group of tokens without counterpart down while its first token equals the one after it,
+// and the tokens around it have adjacent counterparts. Joins it with groups that it reaches.
+fn slide_group(
+    tokens: &[usize],
+    matches: &mut Vec<usize>,
+    others: &mut Vec<usize>,
+    group: (usize, usize),
+    steps: &mut usize,
+) {
+    let mut start = group.0;
+    let mut end = group.1;
+    for _ in 0..tokens.len() {
+        let next = at(matches, end);
+        let before = if start == 0 {
+            0
+        } else {
+            at(matches, start - 1).saturating_add(1)
+        };
+        if next == NONE || next != before || at(tokens, start) != at(tokens, end) || *steps == 0 {
+            return;
+        }
+        set(matches, start, next);
+        set(others, next, start);
+        set(matches, end, NONE);
+        *steps = steps.saturating_sub(1);
+        start = start.saturating_add(1);
+        end = group_end(matches, end);
+    }
+}
+
+// Slides each group of tokens without counterpart down, the last one first.
+fn slide_groups(
+    tokens: &[usize],
+    matches: &mut Vec<usize>,
+    others: &mut Vec<usize>,
+    steps: &mut usize,
+) {
+    let mut before = tokens.len();
+    for _ in 0..tokens.len() {
+        let end = last_unmatched(matches, before);
+        if end == 0 {
+            return;
+        }
+        let start = group_start(matches, end);
+        slide_group(tokens, matches, others, (start, end), steps);
+        before = start;
+    }
+}
+
+// Slides ambiguous insertions and deletions down, as Git does, so that comparisons of one input
+// with several others agree on them.
+fn slide_down(
+    alloc: Global,
+    left: &[usize],
+    right: &[usize],
+    matches: &mut Vec<usize>,
+) -> Result<(), AllocError> {
+    let mut others = vec![in alloc; NONE; right.len()]?;
+    for index in 0..matches.len() {
+        set(&mut others, at(matches, index), index);
+    }
+    let mut steps = left
+        .len()
+        .saturating_add(right.len())
+        .saturating_mul(MAX_VISITS);
+    slide_groups(right, &mut others, matches, &mut steps);
+    slide_groups(left, matches, &mut others, &mut steps);
+    Ok(())
+}
+
 // Returns for each token of `left` the index of its counterpart in `right`, or `NONE`. Tokens are
 // below `count`. Counterparts increase. Visits each token a bounded number of times.
 pub(super) fn find_matches(
@@ -309,5 +409,6 @@ pub(super) fn find_matches(
             )?;
         }
     }
+    slide_down(alloc, left, right, &mut matches)?;
     Ok(matches)
 }
