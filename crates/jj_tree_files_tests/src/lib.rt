@@ -5,6 +5,8 @@
 
 pub mod callers;
 #[cfg(test)]
+mod changes_tests;
+#[cfg(test)]
 mod files_tests;
 #[cfg(test)]
 pub mod fixtures;
