@@ -1,0 +1,225 @@
+//! The commands that read a history.
+use crate::arguments::Command;
+use crate::contents::{list_files, read_file};
+use crate::error::CommandError;
+use crate::revisions::{commit_of, commits_of, values};
+use jj_backend::backend::Backend;
+use jj_history::ancestry::{bases, heads};
+use jj_history::describing::describe_commit;
+use jj_history::drawing::draw_history;
+use jj_history::names::CommitNames;
+use jj_ids::object_id::CommitId;
+use std::alloc::{AllocError, Global};
+use std::collections::BTreeMap;
+use store_walks::ReadCommit;
+
+// The most columns of a log.
+const COLUMNS: usize = 2000;
+
+fn push_line(output: &mut String, words: &[&str]) -> Result<(), AllocError> {
+    for word in words {
+        output.push_str(word)?;
+    }
+    output.push('\n')
+}
+
+// Returns the commits of revisions, and those of all refs if there are no revisions.
+fn starts_of<B: Backend>(
+    alloc: Global,
+    store: &B,
+    refs: &BTreeMap<String, CommitId>,
+    git_ids: &BTreeMap<String, CommitId>,
+    revisions: &[String],
+) -> Result<Vec<CommitId>, CommandError> {
+    if !revisions.is_empty() {
+        return commits_of(alloc, store, refs, git_ids, revisions);
+    }
+    if refs.is_empty() {
+        return Err(CommandError::Empty);
+    }
+    let starts = values(alloc, refs)?;
+    Ok(starts)
+}
+
+/// Draws the commits of revisions, or of all refs, and their ancestors. Fails with `Empty` if there
+/// are neither, with `Drawing` as `draw_history` does, and as `commit_of` does.
+pub fn draw_log<B: Backend>(
+    alloc: Global,
+    store: &B,
+    refs: &BTreeMap<String, CommitId>,
+    git_ids: &BTreeMap<String, CommitId>,
+    revisions: &[String],
+) -> Result<String, CommandError> {
+    let starts = starts_of(alloc, store, refs, git_ids, revisions)?;
+    let names = CommitNames::new(alloc, refs, git_ids)?;
+    let drawing = draw_history(alloc, store, &names, &starts, COLUMNS)?;
+    Ok(drawing)
+}
+
+// Returns a line with a commit and its refs.
+fn head_line(alloc: Global, names: &CommitNames, id: &CommitId) -> Result<String, AllocError> {
+    let mut line = names.name(alloc, id)?;
+    push_line(&mut line, &[" ", names.refs(id)])?;
+    Ok(line)
+}
+
+fn head_lines(
+    alloc: Global,
+    names: &CommitNames,
+    ids: &[CommitId],
+) -> Result<Vec<String>, AllocError> {
+    let mut lines = Vec::new(alloc);
+    for id in ids {
+        let line = head_line(alloc, names, id)?;
+        lines.push(line)?;
+    }
+    lines.sort()?;
+    Ok(lines)
+}
+
+fn concatenate(alloc: Global, lines: &[String]) -> Result<String, AllocError> {
+    let mut output = String::new(alloc);
+    for line in lines {
+        output.push_str(line.as_str())?;
+    }
+    Ok(output)
+}
+
+/// Lists the commits of refs that are no ancestors of others, each with its refs, in order of their
+/// ids. Fails with `Store` and `Memory`.
+pub fn list_heads<B: Backend>(
+    alloc: Global,
+    store: &B,
+    refs: &BTreeMap<String, CommitId>,
+    git_ids: &BTreeMap<String, CommitId>,
+) -> Result<String, CommandError> {
+    let names = CommitNames::new(alloc, refs, git_ids)?;
+    let tips = values(alloc, refs)?;
+    let ids = heads(alloc, store, tips)?;
+    let lines = head_lines(alloc, &names, &ids)?;
+    let output = concatenate(alloc, &lines)?;
+    Ok(output)
+}
+
+/// Lists the refs in ascending order, each after its commit.
+pub fn list_refs(
+    alloc: Global,
+    refs: &BTreeMap<String, CommitId>,
+    git_ids: &BTreeMap<String, CommitId>,
+) -> Result<String, AllocError> {
+    let names = CommitNames::new(alloc, refs, git_ids)?;
+    let mut output = String::new(alloc);
+    for (name, id) in refs {
+        let commit = names.name(alloc, id)?;
+        push_line(&mut output, &[commit.as_str(), " ", name.as_str()])?;
+    }
+    Ok(output)
+}
+
+fn base_lines(
+    alloc: Global,
+    names: &CommitNames,
+    bases: &[ReadCommit],
+) -> Result<String, AllocError> {
+    let mut output = String::new(alloc);
+    for base in bases {
+        let name = names.name(alloc, &base.id)?;
+        push_line(&mut output, &[name.as_str()])?;
+    }
+    Ok(output)
+}
+
+// Returns the merge bases of a commit and a merge of the others.
+fn find_bases<B: Backend>(
+    alloc: Global,
+    store: &B,
+    refs: &BTreeMap<String, CommitId>,
+    git_ids: &BTreeMap<String, CommitId>,
+    first: &str,
+    others: &[String],
+) -> Result<Vec<ReadCommit>, CommandError> {
+    let first = commit_of(alloc, store, refs, git_ids, first)?;
+    let others = commits_of(alloc, store, refs, git_ids, others)?;
+    let found = bases(alloc, store, &first, &others)?;
+    Ok(found)
+}
+
+/// Lists the merge bases of a commit and a merge of the others, a line for each. Fails as
+/// `commit_of` does.
+pub fn list_bases<B: Backend>(
+    alloc: Global,
+    store: &B,
+    refs: &BTreeMap<String, CommitId>,
+    git_ids: &BTreeMap<String, CommitId>,
+    first: &str,
+    others: &[String],
+) -> Result<String, CommandError> {
+    let found = find_bases(alloc, store, refs, git_ids, first, others)?;
+    let names = CommitNames::new(alloc, refs, git_ids)?;
+    let output = base_lines(alloc, &names, &found)?;
+    Ok(output)
+}
+
+/// Describes the commit that a revision names. Fails as `commit_of` does.
+pub fn show_commit<B: Backend>(
+    alloc: Global,
+    store: &B,
+    refs: &BTreeMap<String, CommitId>,
+    git_ids: &BTreeMap<String, CommitId>,
+    revision: &str,
+) -> Result<String, CommandError> {
+    let id = commit_of(alloc, store, refs, git_ids, revision)?;
+    let commit = store.read_commit(alloc, &id)?;
+    let names = CommitNames::new(alloc, refs, git_ids)?;
+    let output = describe_commit(alloc, &names, &id, &commit)?;
+    Ok(output)
+}
+
+// Returns the output of a command that prints lines.
+fn printed<B: Backend>(
+    alloc: Global,
+    store: &B,
+    refs: &BTreeMap<String, CommitId>,
+    git_ids: &BTreeMap<String, CommitId>,
+    command: &Command,
+) -> Result<String, CommandError> {
+    match command {
+        Command::Log(revisions) => draw_log(alloc, store, refs, git_ids, revisions),
+        Command::Heads => list_heads(alloc, store, refs, git_ids),
+        Command::Refs => match list_refs(alloc, refs, git_ids) {
+            Ok(output) => Ok(output),
+            Err(_) => Err(CommandError::Memory),
+        },
+        Command::Bases { first, others } => {
+            list_bases(alloc, store, refs, git_ids, first.as_str(), others)
+        }
+        Command::Show(revision) => show_commit(alloc, store, refs, git_ids, revision.as_str()),
+        Command::Files(revision) => list_files(alloc, store, refs, git_ids, revision.as_str()),
+        Command::Import | Command::Cat { .. } => Ok(String::new(alloc)),
+    }
+}
+
+/// Returns the output of a command, which is empty for `Import`. Fails as the function of the
+/// command does.
+pub fn output_of<B: Backend>(
+    alloc: Global,
+    store: &B,
+    refs: &BTreeMap<String, CommitId>,
+    git_ids: &BTreeMap<String, CommitId>,
+    command: &Command,
+) -> Result<Vec<u8>, CommandError> {
+    if let Command::Cat { revision, path } = command {
+        return read_file(
+            alloc,
+            store,
+            refs,
+            git_ids,
+            revision.as_str(),
+            path.as_str(),
+        );
+    }
+    match printed(alloc, store, refs, git_ids, command) {
+        Ok(output) => Ok(output.into_bytes()),
+        Err(error) => Err(error),
+    }
+}

@@ -1,0 +1,106 @@
+//! The commits that operands name.
+
+use crate::error::CommandError;
+use jj_backend::backend::Backend;
+use jj_history::error::RevisionError;
+use jj_history::revisions::resolve;
+use jj_ids::object_id::{CommitId, ObjectId};
+use std::alloc::{AllocError, Global};
+use std::collections::BTreeMap;
+use store_walks::history_ids;
+
+/// Returns the commits of a map, in the order of their names.
+pub fn values(
+    alloc: Global,
+    ids: &BTreeMap<String, CommitId>,
+) -> Result<Vec<CommitId>, AllocError> {
+    let mut values = Vec::new(alloc);
+    for id in ids.values() {
+        values.push(id.clone()?)?;
+    }
+    Ok(values)
+}
+
+// Returns the ids among which prefixes are looked up: those of the commits that Git has ids for,
+// and without such ids those of the ancestors of the refs.
+fn known_ids<B: Backend>(
+    alloc: Global,
+    store: &B,
+    refs: &BTreeMap<String, CommitId>,
+    git_ids: &BTreeMap<String, CommitId>,
+) -> Result<Vec<CommitId>, CommandError> {
+    if git_ids.is_empty() {
+        let starts = values(alloc, refs)?;
+        let ids = history_ids(alloc, store, &starts)?;
+        return Ok(ids);
+    }
+    let ids = values(alloc, git_ids)?;
+    Ok(ids)
+}
+
+// Returns the revision as a whole id, if the store has a commit with it.
+fn whole_id<B: Backend>(
+    alloc: Global,
+    store: &B,
+    revision: &str,
+) -> Result<Option<CommitId>, AllocError> {
+    let Some(id) = CommitId::try_from_hex(alloc, revision)? else {
+        return Ok(None);
+    };
+    if id.as_bytes().len() != store.commit_id_length() {
+        return Ok(None);
+    }
+    match store.read_commit(alloc, &id) {
+        Ok(_) => Ok(Some(id)),
+        Err(_) => Ok(None),
+    }
+}
+
+// Returns the commit with this whole id, or the error that no commit has this name.
+fn or_whole_id<B: Backend>(
+    alloc: Global,
+    store: &B,
+    revision: &str,
+    quoted: String,
+) -> Result<CommitId, CommandError> {
+    match whole_id(alloc, store, revision) {
+        Ok(Some(id)) => Ok(id),
+        Ok(None) => Err(CommandError::Revision(RevisionError::Unknown { quoted })),
+        Err(_) => Err(CommandError::Memory),
+    }
+}
+
+/// Returns the commit that a revision names, as `resolve` does among the commits that Git has ids
+/// for, or among the ancestors of the refs if there are none; and else the commit of the store with
+/// this whole id. Fails with `Revision` as `resolve` does, with `Store` and `Cycle` if the commits
+/// of the ancestors cannot be read, and with `Memory` if memory runs out.
+pub fn commit_of<B: Backend>(
+    alloc: Global,
+    store: &B,
+    refs: &BTreeMap<String, CommitId>,
+    git_ids: &BTreeMap<String, CommitId>,
+    revision: &str,
+) -> Result<CommitId, CommandError> {
+    let ids = known_ids(alloc, store, refs, git_ids)?;
+    match resolve(alloc, refs, git_ids, &ids, revision) {
+        Ok(id) => Ok(id),
+        Err(RevisionError::Unknown { quoted }) => or_whole_id(alloc, store, revision, quoted),
+        Err(error) => Err(CommandError::Revision(error)),
+    }
+}
+
+/// Returns the commits that revisions name. Fails as `commit_of` does.
+pub fn commits_of<B: Backend>(
+    alloc: Global,
+    store: &B,
+    refs: &BTreeMap<String, CommitId>,
+    git_ids: &BTreeMap<String, CommitId>,
+    revisions: &[String],
+) -> Result<Vec<CommitId>, CommandError> {
+    let mut ids = Vec::new(alloc);
+    for revision in revisions {
+        let id = commit_of(alloc, store, refs, git_ids, revision.as_str())?;
+        ids.push(id)?;
+    }
+    Ok(ids)
+}
