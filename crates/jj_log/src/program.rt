@@ -150,9 +150,9 @@ Status: 0, 1 after a fault, 2 after a wrong option.
 
 /// Runs the program with these arguments (without the program's name), and returns its exit status.
 ///
-/// It draws the commits of the input, and returns 0 when the drawing was written, 1 after a failure,
-/// with a line about it on `errors` unless the output was closed, and 2 after a wrong argument. A
-/// failing `errors` does not change the status.
+/// It draws the commits of the input, and returns 0 when the drawing was written, 1 after a
+/// failure, with a line about it on `errors` unless the output was closed, and 2 after a wrong
+/// argument. A failing `errors` does not change the status.
 pub fn start<R: Source, W: Sink, E: Sink>(
     alloc: Global,
     words: &[String],
