@@ -4,9 +4,13 @@ pub mod Anchors
 pub mod Gaps
 pub mod HunkEnds
 pub mod HunkRanges
+pub mod Joining
+pub mod Kept
 pub mod Progress
+pub mod Refined
 pub mod Rows
 pub mod Slices
 pub mod TokenEnds
 pub mod TokenRanges
+pub mod Views
 pub mod Whitespace

@@ -7,3 +7,4 @@ pub mod Ranges
 pub mod Ends
 pub mod Anchors
 pub mod Hunks
+pub mod Refined

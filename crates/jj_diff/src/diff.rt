@@ -28,7 +28,6 @@ pub use hunks::{
     DiffHunk, DiffHunkKind, MatchedRegion, compared_hunks, hunks_of_regions, single_hunk,
 };
 pub use ranges::{find_line_ranges, find_nonword_ranges, find_word_ranges};
-pub use refine::{matched_regions, refine_compared_regions, refine_regions};
 pub use regions::{find_compared_regions, find_regions};
 use std::alloc::{AllocError, Global};
 pub use tokens::{Tokenizer, find_line_ends, find_word_ends};

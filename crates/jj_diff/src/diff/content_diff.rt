@@ -1,17 +1,18 @@
 //! `ContentDiff`: the comparison of any number of inputs, by lines, by words or by both.
-ghost use Rattle.std.specs.Prelude.{◌≡◌, ◌≤◌, List, [], length, map, IfOk, OnOk, OnErr};
+ghost use Rattle.std.specs.Prelude.{◌≡◌, ◌⊎◌, ◌≤◌, List, [], length, map, IfOk, OnOk, OnErr};
 ghost use Rattle.std.specs.List.{slice_index_or};
 ghost use Rattle.std.specs.Slice.Iter.{iter_rest};
 ghost use Rattle.jj_diff.specs.Inputs.{AreEqual, AreEqualBy, bytes_of, side};
 ghost use Rattle.jj_diff.specs.Hunks.{AllMatch, AreTrimmed, IsDiff, IsDiffBy, MatchesEnds, hunk_ranges, row_of};
+ghost use Rattle.jj_diff.specs.Refined.{AreHunksOf, IsRefined, IsRefinedLines, KeepsEnds, KeepsMatches};
 ghost use Rattle.jj_diff.specs.declared.diff.tokens.Tokenizer.{Tokenizer};
 
 use super::compare::{CompareBytes, CompareBytesExactly};
 use super::diff_by_line;
 use super::hunks::{DiffHunk, compared_hunks, single_hunk};
-use super::refine::{matched_regions, refine_compared_regions};
+use super::refine::refine_hunks;
 use super::regions::find_compared_regions;
-use super::rows::offset_after;
+use super::rows::{offset_after, part_of};
 use super::tokens::Tokenizer;
 use std::alloc::{AllocError, Global};
 use std::ops::Range;
@@ -28,13 +29,6 @@ pub struct ContentDiff<'a> {
 
 /// Iterates over hunks.
 pub type DiffHunkIterator<'b, 'a> = Iter<'b, DiffHunk<'a>>;
-
-// Returns part number `index` of the row, or an empty one if there is none.
-fn part_of<'a>(row: &[&'a [u8]], index: usize) -> &'a [u8]
-    ensures { result.now ≡ slice_index_or (bytes_of row.now) index [] }
-{
-    if index < row.len() { row[index] } else { &[] }
-}
 
 // Returns where each hunk is in the input `text`, which consists of their parts.
 #[tactic(auto, using(crate::proofs::HunkRanges::range_steps))]
@@ -57,24 +51,27 @@ fn ranges_within(
     Ok(ranges)
 }
 
-// Compares the inputs line by line and then, between lines that match, word by word, each with
-// input `base`.
-fn diff_by_word<'a>(
-    alloc: Global,
-    inputs: &[&'a [u8]],
-    base: usize,
-) -> Result<Vec<DiffHunk<'a>>, AllocError>
+/// Returns the hunks of a comparison by words: lines are compared first, each input with the first,
+/// and then the words of hunks that differ.
+pub fn diff<'a>(alloc: Global, inputs: &[&'a [u8]]) -> Result<Vec<DiffHunk<'a>>, AllocError>
     ensures diff { IfOk result (λ hunks. IsDiff Tokenizer.Words (bytes_of inputs.now) hunks.items) }
+    // Hunks of a comparison by lines are refined: what matches there matches here.
+    ensures refined { IfOk result (λ hunks. IsRefinedLines (bytes_of inputs.now) hunks.items) }
     ensures ends { IfOk result
-        (λ hunks. MatchesEnds Tokenizer.Words (bytes_of inputs.now) hunks.items) }
+        (λ hunks. MatchesEnds Tokenizer.Lines (bytes_of inputs.now) hunks.items) }
     ensures trimmed { IfOk result (λ hunks. AreTrimmed Tokenizer.Words hunks.items) }
     ensures identity { IfOk result
         (λ hunks. AreEqual (bytes_of inputs.now) → AllMatch hunks.items) }
 {
-    let exactly = CompareBytesExactly;
-    let lines = find_compared_regions(alloc, Tokenizer::Lines, &exactly, inputs, base)?;
-    let regions = refine_compared_regions(alloc, Tokenizer::Words, &exactly, inputs, base, &lines)?;
-    compared_hunks(alloc, Tokenizer::Words, &exactly, inputs, &regions)
+    let lines = diff_by_line(alloc, inputs, 0)?;
+    let hunks = refine_hunks(
+        alloc,
+        Tokenizer::Words,
+        &CompareBytesExactly,
+        inputs,
+        &lines,
+    )?;
+    Ok(hunks)
 }
 
 impl<'a> ContentDiff<'a> {
@@ -94,19 +91,21 @@ impl<'a> ContentDiff<'a> {
         Ok(ContentDiff { inputs, hunks })
     }
 
-    /// Compares the inputs line by line and then, between lines that match, word by word, each with
-    /// the first.
+    /// Compares the inputs line by line, each with the first, and then the words of the hunks that
+    /// differ. What matches by lines matches.
     pub fn by_word(alloc: Global, inputs: &[&'a [u8]]) -> Result<ContentDiff<'a>, AllocError>
         ensures inputs { IfOk result (λ d. bytes_of d.inputs.items ≡ bytes_of inputs.now) }
         ensures diff { IfOk result
             (λ d. IsDiff Tokenizer.Words (bytes_of inputs.now) d.hunks.items) }
+        ensures refined { IfOk result
+            (λ d. IsRefinedLines (bytes_of inputs.now) d.hunks.items) }
         ensures ends { IfOk result
-            (λ d. MatchesEnds Tokenizer.Words (bytes_of inputs.now) d.hunks.items) }
+            (λ d. MatchesEnds Tokenizer.Lines (bytes_of inputs.now) d.hunks.items) }
         ensures trimmed { IfOk result (λ d. AreTrimmed Tokenizer.Words d.hunks.items) }
         ensures identity { IfOk result
             (λ d. AreEqual (bytes_of inputs.now) → AllMatch d.hunks.items) }
     {
-        let hunks = diff_by_word(alloc, inputs, 0)?;
+        let hunks = diff(alloc, inputs)?;
         let inputs = Vec::from_slice(alloc, inputs)?;
         Ok(ContentDiff { inputs, hunks })
     }
@@ -148,8 +147,8 @@ impl<'a> ContentDiff<'a> {
         Ok(ContentDiff { inputs, hunks })
     }
 
-    /// Compares the inputs anew, token by token: tokens of hunks that match are tried first, then
-    /// those between them. Fails if memory runs out; the comparison is then unchanged.
+    /// Compares the parts of each hunk that differs, token by token. Hunks that match stay as they
+    /// are; adjacent ones are joined. Fails if memory runs out; the comparison is then unchanged.
     pub fn refine_changed_regions<C: CompareBytes>(
         &mut self,
         alloc: Global,
@@ -157,18 +156,34 @@ impl<'a> ContentDiff<'a> {
         compare: &C,
     ) -> Result<(), AllocError>
         ensures inputs { self.new.inputs.items ≡ self.old.inputs.items }
-        ensures diff { OnOk result (IsDiffBy C.canonical tokenizer (bytes_of self.old.inputs.items)
+        // The hunks that differed are replaced by comparisons of their parts, which match where
+        // they start and end alike.
+        ensures refined { OnOk result
+            (AreHunksOf (bytes_of self.old.inputs.items) self.old.hunks.items
+            → IsRefined C.canonical tokenizer self.old.hunks.items self.new.hunks.items) }
+        // A comparison by lines, or by the tokens that are compared now, is one by these tokens.
+        ensures diff { OnOk result ((before : Tokenizer)
+            → (before ≡ Tokenizer.Lines) ⊎ (before ≡ tokenizer)
+            → IsDiffBy C.canonical before (bytes_of self.old.inputs.items) self.old.hunks.items
+            → IsDiffBy C.canonical tokenizer (bytes_of self.old.inputs.items)
+            self.new.hunks.items) }
+        // A hunk that matched is part of one that matches.
+        ensures kept { OnOk result
+            (AreHunksOf (bytes_of self.old.inputs.items) self.old.hunks.items
+            → KeepsMatches (length (bytes_of self.old.inputs.items)) self.old.hunks.items
             self.new.hunks.items) }
         ensures ends { OnOk result
-            (MatchesEnds tokenizer (bytes_of self.old.inputs.items) self.new.hunks.items) }
-        ensures trimmed { OnOk result (AreTrimmed tokenizer self.new.hunks.items) }
-        ensures identity { OnOk result (AreEqualBy C.canonical (bytes_of self.old.inputs.items)
-            → AllMatch self.new.hunks.items) }
+            (AreHunksOf (bytes_of self.old.inputs.items) self.old.hunks.items
+            → KeepsEnds self.old.hunks.items self.new.hunks.items) }
+        ensures trimmed { OnOk result
+            (AreHunksOf (bytes_of self.old.inputs.items) self.old.hunks.items
+            → AreTrimmed tokenizer self.new.hunks.items) }
+        ensures identity { OnOk result
+            (AreHunksOf (bytes_of self.old.inputs.items) self.old.hunks.items
+            → AllMatch self.old.hunks.items → AllMatch self.new.hunks.items) }
         ensures unchanged { OnErr result (self.new.hunks.items ≡ self.old.hunks.items) }
     {
-        let known = matched_regions(alloc, self.inputs.len(), &self.hunks)?;
-        let regions = refine_compared_regions(alloc, tokenizer, compare, &self.inputs, 0, &known)?;
-        let hunks = compared_hunks(alloc, tokenizer, compare, &self.inputs, &regions)?;
+        let hunks = refine_hunks(alloc, tokenizer, compare, &self.inputs, &self.hunks)?;
         self.hunks = hunks;
         Ok(())
     }
@@ -191,16 +206,4 @@ impl<'a> ContentDiff<'a> {
     {
         self.hunks.iter()
     }
-}
-
-/// Returns the hunks of a comparison by words.
-pub fn diff<'a>(alloc: Global, inputs: &[&'a [u8]]) -> Result<Vec<DiffHunk<'a>>, AllocError>
-    ensures diff { IfOk result (λ hunks. IsDiff Tokenizer.Words (bytes_of inputs.now) hunks.items) }
-    ensures ends { IfOk result
-        (λ hunks. MatchesEnds Tokenizer.Words (bytes_of inputs.now) hunks.items) }
-    ensures trimmed { IfOk result (λ hunks. AreTrimmed Tokenizer.Words hunks.items) }
-    ensures identity { IfOk result
-        (λ hunks. AreEqual (bytes_of inputs.now) → AllMatch hunks.items) }
-{
-    diff_by_word(alloc, inputs, 0)
 }

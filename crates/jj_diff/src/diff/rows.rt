@@ -9,6 +9,24 @@ use super::compare::CompareBytes;
 use super::tokens::Tokenizer;
 use std::alloc::{AllocError, Global};
 
+// Returns part number `index` of the row, or an empty one if there is none.
+pub(super) fn part_of<'a>(row: &[&'a [u8]], index: usize) -> &'a [u8]
+    ensures { result.now ≡ slice_index_or (bytes_of row.now) index [] }
+{
+    if index < row.len() { row[index] } else { &[] }
+}
+
+// Returns the offset at this index, or 0 if there is none.
+pub(super) fn offset_at(offsets: &[usize], index: usize) -> usize
+    ensures { result ≡ slice_index offsets.now index }
+{
+    if index < offsets.len() {
+        offsets[index]
+    } else {
+        0
+    }
+}
+
 // Returns the part of each input from `starts` to `ends`.
 pub(super) fn parts<'a>(
     alloc: Global,
