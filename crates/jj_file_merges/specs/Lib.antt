@@ -1,0 +1,5 @@
+pub mod FileTerms
+pub mod Contents
+pub mod Resolutions
+pub mod Markings
+pub mod MergedTrees
