@@ -1,5 +1,5 @@
 -- Outcomes of conflicts, and the objects that they add.
-use Rattle.std.proofs.Common.{◌≡◌, ◌∙◌, ◌⊎◌, inl, inr, ℕ, Bool, List, [], Option, Some, None, refl, sym, ap, subst}
+use Rattle.std.proofs.Common.{◌≡◌, ◌∙◌, inl, inr, ℕ, List, [], Option, Some, None, refl, sym, ap, subst}
 use Rattle.std.specs.List.{AllZip}
 use Rattle.jj_paths.specs.Paths.{Path}
 use Rattle.jj_merges.specs.declared.merge.SameChange.{SameChange}

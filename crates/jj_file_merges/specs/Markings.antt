@@ -1,6 +1,6 @@
 -- The content of a file whose conflicts are between markers.
 -- Cited by contracts of public items: IsMarkedContent, IsMarkingError.
-use Rattle.std.specs.Prelude.{◌≡◌, ◌⊎◌, ℕ, Bool, true, false, List, [], Option, Some, None, Contains}
+use Rattle.std.specs.Prelude.{◌≡◌, ◌⊎◌, ℕ, Bool, false, List, [], Option, Some, None, Contains}
 use Rattle.std.specs.Bool.{MatchBool}
 use Rattle.std.specs.List.{AllZip, list_any}
 use Rattle.jj_merges.specs.Labels.{labels_as_merge}

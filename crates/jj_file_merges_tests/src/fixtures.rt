@@ -6,13 +6,11 @@ use jj_content_merges::files::{FileMergeHunkLevel, MergeOptions};
 use jj_files::file_util::{SourceError, SourceKind};
 use jj_ids::object_id::ObjectId;
 use jj_merges::conflict_labels::ConflictLabels;
-use jj_merges::merge::{Merge, SameChange};
+use jj_merges::merge::{Diff, Merge, SameChange};
 use jj_paths::repo_path::{RepoPath, RepoPathBuf};
 use jj_tree_builder::tree_builder::TreeBuilder;
 use jj_trees::memory_backend::MemoryBackend;
-use smallvec::SmallVec;
 use std::alloc::{AllocError, Global};
-use std::default::MadeWith;
 
 pub const LINES: MergeOptions = MergeOptions {
     hunk_level: FileMergeHunkLevel::Line,
@@ -85,17 +83,10 @@ pub fn write_tree(
 }
 
 /// Returns the merge of two sides with a base.
-pub fn three<T: MadeWith<Global> + Drop>(
-    alloc: Global,
-    left: T,
-    base: T,
-    right: T,
-) -> Result<Merge<T>, AllocError> {
-    let mut terms = Vec::new(alloc);
-    terms.push(left)?;
-    terms.push(base)?;
-    terms.push(right)?;
-    Ok(Merge::from_vec(SmallVec::from_vec(terms)))
+pub fn three<T: Drop>(alloc: Global, left: T, base: T, right: T) -> Result<Merge<T>, AllocError> {
+    let mut diffs = Vec::new(alloc);
+    diffs.push(Diff::new(base, right))?;
+    Merge::from_diffs(alloc, left, diffs)
 }
 
 /// Returns the labels of the files of a merge as Git names them.

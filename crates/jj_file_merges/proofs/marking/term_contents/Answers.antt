@@ -1,6 +1,5 @@
-use Rattle.std.proofs.Common.{◌≡◌, ◌∙◌, ◌⊎◌, ℕ, List, Option, Some, None, Vec, inl, inr, length, sym}
+use Rattle.std.proofs.Common.{◌∙◌, ℕ, List, Option, Some, None, Vec, inl, inr, sym}
 use Rattle.std.specs.Prelude.{Contains}
-use Rattle.std.specs.Bool.{MatchBool}
 use Rattle.std.specs.Global.{Global}
 use Rattle.std.proofs.lemmas.List.{length-map}
 use Rattle.std.proofs.lemmas.Result.{err_from_is_err_and}

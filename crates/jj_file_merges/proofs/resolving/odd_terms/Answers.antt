@@ -1,4 +1,4 @@
-use Rattle.std.proofs.Common.{◌≡◌, List, Option, None, Some, Vec, ap, length, subst, sym}
+use Rattle.std.proofs.Common.{◌≡◌, Option, None, Some, Vec, length, subst, sym}
 use Rattle.std.specs.Global.{Global}
 use Rattle.std.specs.Prelude.{IfSome, MatchOption}
 use Rattle.jj_merges.specs.Merge.{IsOdd}

@@ -1,4 +1,4 @@
-use Rattle.std.proofs.Common.{◌≡◌, ℕ, List, Some, inr, sym}
+use Rattle.std.proofs.Common.{◌≡◌, ℕ, Some, inr, sym}
 use Rattle.std.proofs.lemmas.Result.{err_from_is_err_and}
 use Rattle.std.specs.Global.{Global}
 use Rattle.std.proofs.Common.{Vec}

@@ -1,7 +1,6 @@
-use Rattle.std.proofs.Common.{◌≡◌, ◌∙◌, List, ap, length, map}
+use Rattle.std.proofs.Common.{◌∙◌, ap, length, map}
 use Rattle.std.proofs.lemmas.List.{length-map}
-use Rattle.jj_file_merges.specs.MergedTrees.{IsOutcome, PathConflict, outcome_value}
-use Rattle.jj_file_merges.specs.declared.trees.Outcome.{Outcome}
+use Rattle.jj_file_merges.specs.MergedTrees.{IsOutcome, outcome_value}
 use Rattle.jj_file_merges.proofs.Outcomes.{adds_both}
 use Rattle.jj_file_merges.proofs.Zips.{zip_length}
 use Rattle.jj_file_merges.proofs.trees.merge_files.Goals as goal
