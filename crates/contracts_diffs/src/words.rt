@@ -1,9 +1,10 @@
 //! Callers of `jj_diff` that refine a comparison by lines, and that look up where hunks are.
 ghost use Rattle.std.specs.Prelude.{◌≡◌, ℕ, ◌≤◌, ◌++◌, List, [], ◌∷◌, length, map, IfOk};
 ghost use Rattle.jj_diff.specs.Inputs.{side};
-ghost use Rattle.jj_diff.specs.Hunks.{row_of, matched_start, matched_end, IsDiff};
+ghost use Rattle.jj_diff.specs.Hunks.{row_of, matched_start, matched_end, AreTrimmed, IsDiff, MatchesEnds};
+ghost use Rattle.jj_diff.specs.Refined.{KeepsMatches};
 ghost use Rattle.jj_diff.specs.declared.diff.hunks.DiffHunk.{DiffHunk};
-ghost use Rattle.jj_diff.specs.declared.diff.tokens.Tokenizer.TheVariants.{Lines};
+ghost use Rattle.jj_diff.specs.declared.diff.tokens.Tokenizer.TheVariants.{Lines, Words};
 ghost use Rattle.contracts_diffs.specs.Lines.{EndsInLine};
 ghost use Rattle.contracts_diffs.specs.Ranges.{IsContiguous, left_parts, parts_at};
 
@@ -11,9 +12,9 @@ use jj_diff::diff::{CompareBytesExactly, ContentDiff, Tokenizer};
 use std::alloc::{AllocError, Global};
 use std::ops::Range;
 
-/// Compares two versions of a file by lines, and then anew by words, with the lines that match
-/// first. The lines before the first one that differs and after the last one that differs match by
-/// words too.
+/// Compares two versions of a file by lines, and then the words of the lines that differ. What
+/// matches by lines matches still, and so do the lines before the first one that differs and after
+/// the last one that differs.
 pub fn compare_words<'a>(
     alloc: Global,
     left: &'a [u8],
@@ -32,6 +33,15 @@ pub fn compare_words<'a>(
         → left.now ≡ xs ++ lines → right.now ≡ ys ++ lines
         → matched_start d.hunks.items ≤ length xs → matched_start d.hunks.items ≤ length ys
         → length lines ≤ matched_end d.hunks.items) }
+    // Each hunk of the comparison by lines that matches is part of a matching hunk, at the same
+    // offset of both versions.
+    ensures kept { IfOk result (λ d. (hunks : List DiffHunk)
+        × IsDiff Lines (left.now ∷ right.now ∷ []) hunks
+        × MatchesEnds Lines (left.now ∷ right.now ∷ []) hunks
+        × KeepsMatches 2 hunks d.hunks.items) }
+    // No part of a hunk that differs starts or ends with a word that all its parts start or end
+    // with.
+    ensures trimmed { IfOk result (λ d. AreTrimmed Words d.hunks.items) }
 {
     let mut compared = ContentDiff::by_line(alloc, &[left, right])?;
     compared.refine_changed_regions(alloc, Tokenizer::Words, &CompareBytesExactly)?;
