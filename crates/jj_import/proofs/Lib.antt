@@ -1,4 +1,6 @@
 pub mod Extensions
 pub mod MovedFiles
 pub mod AppliedLater
+pub mod NamedCommits
+pub mod States
 pub mod AppliedSteps

@@ -1,3 +1,5 @@
 pub mod Imported
 pub mod Stored
 pub mod AppliedChanges
+pub mod ImportStates
+pub mod ImportedCommands

@@ -27,7 +27,7 @@ fn unknown_name(alloc: Global, field: &'static str, name: &[u8]) -> ImportError 
 }
 
 // Writes a file.
-fn write_contents<B: Backend>(
+pub(crate) fn write_contents<B: Backend>(
     alloc: Global,
     backend: &mut B,
     path: RepoPath<'_>,

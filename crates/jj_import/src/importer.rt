@@ -1,4 +1,15 @@
 //! Import of the commands of a stream, one after the other.
+ghost use Rattle.std.specs.Prelude.{◌≡◌, ℕ, ◌++◌, List, Some, None, IfOk, IfSome, IsSome, OnOk, OnErr, codes, string_bytes};
+ghost use Rattle.std.specs.Option.{option_map};
+ghost use Rattle.jj_backend.specs.Objects.{Objects};
+ghost use Rattle.jj_fast_import.specs.Values.{Blobs, Commits, Resets, Tags, blob_value, bytes_of, command_value, commit_value, reference_value, tag_value};
+ghost use Rattle.jj_import.specs.AppliedChanges.{table_of};
+ghost use Rattle.jj_import.specs.Imported.{imported_string};
+ghost use Rattle.jj_import.specs.ImportStates.{IsSame, IsStoredCommit, known_commit as commit_known, names_of, state_of, with_commit};
+ghost use Rattle.jj_import.specs.ImportedCommands.{IsCommandImported, IsNewMark};
+ghost use Rattle.jj_import.specs.Stored.{IsExtended};
+
+use crate::changes::write_contents;
 use crate::error::ImportError;
 use crate::marks::{Marked, Marks};
 use crate::name_maps::{add_id, remove_id, restore, set_name};
@@ -11,7 +22,7 @@ use jj_paths::repo_path::RepoPath;
 use std::alloc::{AllocError, Global};
 use std::collections::BTreeMap;
 
-// The numbers of imported objects.
+// Numbers of imported objects.
 #[derive(Drop)]
 struct Counts {
     commits: u64,
@@ -35,11 +46,81 @@ pub struct Importer {
     is_within_stream: bool,
 }
 
-fn text_of(alloc: Global, bytes: &[u8]) -> Result<String, AllocError> {
+impl Counts {
+    fn add_commit(&mut self, is_known: bool) {
+        self.commits = self.commits.saturating_add(1);
+        if is_known {
+            self.known_commits = self.known_commits.saturating_add(1);
+        }
+    }
+
+    fn add_blob(&mut self, bytes: u64) {
+        self.blobs = self.blobs.saturating_add(1);
+        self.blob_bytes = self.blob_bytes.saturating_add(bytes);
+    }
+}
+
+fn text_of(alloc: Global, bytes: &[u8]) -> Result<String, AllocError>
+    ensures { IfOk result (λ text. string_bytes text ≡ imported_string bytes.now) }
+{
     String::from_utf8_lossy(alloc, bytes)
 }
 
-fn clone_name(name: &Option<String>) -> Result<Option<String>, AllocError> {
+// Returns Git's id of a commit, if the stream has it.
+fn git_id_of(alloc: Global, id: &Option<Vec<u8>>) -> Result<Option<String>, AllocError>
+    ensures { IfOk result (λ git_id. option_map string_bytes git_id
+        ≡ option_map imported_string (option_map bytes_of id.now)) }
+{
+    match id {
+        Some(id) => {
+            let git_id = text_of(alloc, id)?;
+            Ok(Some(git_id))
+        }
+        None => Ok(None),
+    }
+}
+
+// Appends an id of Git that has no commit to those that are to be recorded.
+fn push_new_id(
+    new_ids: &mut Vec<String>,
+    git_ids: &BTreeMap<String, CommitId>,
+    git_id: &Option<String>,
+) -> Result<(), AllocError> {
+    if let Some(git_id) = git_id
+        && !git_ids.contains_key(git_id.as_str())
+    {
+        let copy = git_id.clone()?;
+        new_ids.push(copy)?;
+    }
+    Ok(())
+}
+
+// Returns the name of the ref of a tag.
+fn tag_ref(alloc: Global, tag: &[u8]) -> Result<String, AllocError>
+    ensures { IfOk result (λ name. string_bytes name
+        ≡ codes "refs/tags/" ++ imported_string tag.now) }
+{
+    let tag = text_of(alloc, tag)?;
+    let mut name = String::from_str(alloc, "refs/tags/")?;
+    name.push_str(tag.as_str())?;
+    Ok(name)
+}
+
+// Fails unless the feature is that the stream ends with `done`.
+fn check_feature(feature: &[u8]) -> Result<(), ImportError>
+    ensures { OnOk result (feature.now ≡ codes "done") }
+{
+    if feature == b"done".as_slice() {
+        Ok(())
+    } else {
+        Err(ImportError::Unsupported { field: "feature" })
+    }
+}
+
+fn clone_name(name: &Option<String>) -> Result<Option<String>, AllocError>
+    ensures { IfOk result (λ copy. option_map string_bytes copy
+        ≡ option_map string_bytes name.now) }
+{
     match name {
         Some(name) => {
             let copy = name.clone()?;
@@ -52,7 +133,11 @@ fn clone_name(name: &Option<String>) -> Result<Option<String>, AllocError> {
 impl Importer {
     /// Returns the state before the first command of a stream. Commits that Git's ids of `names`
     /// name are not written again.
-    pub fn over_names(alloc: Global, names: Names) -> Self {
+    pub fn over_names(alloc: Global, names: Names) -> Self
+        ensures marks { (mark : ℕ) → (state_of result).marks mark ≡ None }
+        ensures stream_refs { (name : List ℕ) → (state_of result).stream_refs name ≡ None }
+        ensures names { (state_of result).names ≡ names_of names }
+    {
         Importer {
             marks: Marks::new(alloc),
             stream_refs: BTreeMap::new(alloc),
@@ -70,7 +155,9 @@ impl Importer {
     }
 
     /// The names at the start, with those that the stream has set.
-    pub fn names(&self) -> &Names {
+    pub fn names(&self) -> &Names
+        ensures { names_of result.now ≡ (state_of self.now).names }
+    {
         &self.names
     }
 
@@ -94,7 +181,9 @@ impl Importer {
         self.counts.blob_bytes
     }
 
-    pub(crate) fn set_within_stream(&mut self, is_within_stream: bool) {
+    pub(crate) fn set_within_stream(&mut self, is_within_stream: bool)
+        ensures { state_of self.new ≡ state_of self.old }
+    {
         self.is_within_stream = is_within_stream;
     }
 
@@ -117,7 +206,9 @@ impl Importer {
         &mut self,
         alloc: Global,
         backend: &mut B,
-    ) -> Result<Option<CommitId>, ImportError> {
+    ) -> Result<Option<CommitId>, ImportError>
+        ensures { state_of self.new ≡ state_of self.old }
+    {
         let refs = refs_text(alloc, &self.names.refs)?;
         if !self.has_unrecorded_names(&refs) {
             return Ok(None);
@@ -136,8 +227,13 @@ impl Importer {
         &self,
         alloc: Global,
         backend: &B,
-        git_id: Option<&String>,
-    ) -> Result<Option<CommitId>, ImportError> {
+        git_id: &Option<String>,
+    ) -> Result<Option<CommitId>, ImportError>
+        ensures known { IfOk result (λ known. known ≡ commit_known (state_of self.now)
+            (option_map string_bytes git_id.now)) }
+        ensures stored { IfOk result (λ known. IfSome known
+            (λ id. IsSome ((B.objects backend.now).commits id))) }
+    {
         let Some(git_id) = git_id else {
             return Ok(None);
         };
@@ -150,36 +246,63 @@ impl Importer {
         }
     }
 
+    // Returns the commit that a commit of the stream becomes, and whether it is stored already.
+    fn stored_commit<B: Backend>(
+        &self,
+        alloc: Global,
+        backend: &mut B,
+        commit: &command::Commit,
+        ref_name: &str,
+        git_id: &Option<String>,
+    ) -> Result<(CommitId, bool), ImportError>
+        requires ref_name { ref_name.now ≡ imported_string commit.now.ref_name.items }
+        requires git_id { option_map string_bytes git_id.now
+            ≡ option_map imported_string (option_map bytes_of commit.now.original_oid) }
+        ensures commit { IfOk result (λ stored. (objects : Objects)
+            → IsExtended (B.objects backend.new) objects → IsStoredCommit objects
+            (B.fixed backend.old).root_commit_id (state_of self.now) (commit_value commit.now)
+            stored.0) }
+        ensures objects { IsExtended (B.objects backend.old) (B.objects backend.new) }
+        ensures fixed { B.fixed backend.new ≡ B.fixed backend.old }
+    {
+        let known = self.known_commit(alloc, backend, git_id)?;
+        match known {
+            Some(id) => Ok((id, true)),
+            None => {
+                let id = self.write_commit(alloc, backend, commit, ref_name, git_id)?;
+                Ok((id, false))
+            }
+        }
+    }
+
     fn import_commit<B: Backend>(
         &mut self,
         alloc: Global,
         backend: &mut B,
         commit: &command::Commit,
-    ) -> Result<(), ImportError> {
+    ) -> Result<(), ImportError>
+        ensures imported { OnOk result ((objects : Objects)
+            → IsExtended (B.objects backend.new) objects → IsCommandImported objects
+            (B.fixed backend.old).root_commit_id (Commits (commit_value commit.now))
+            (state_of self.old) (state_of self.new)) }
+        ensures unchanged { OnErr result (state_of self.new ≡ state_of self.old) }
+        ensures objects { IsExtended (B.objects backend.old) (B.objects backend.new) }
+        ensures fixed { B.fixed backend.new ≡ B.fixed backend.old }
+    {
         self.marks.check_new(commit.mark)?;
         let ref_name = text_of(alloc, &commit.ref_name)?;
-        let git_id = match &commit.original_oid {
-            Some(git_id) => Some(text_of(alloc, git_id)?),
-            None => None,
-        };
-        let known = self.known_commit(alloc, backend, git_id.as_ref())?;
-        let is_known = known.is_some();
-        let id = match known {
-            Some(id) => id,
-            None => self.write_commit(alloc, backend, commit, ref_name.as_str(), git_id.as_ref())?,
-        };
+        let git_id = git_id_of(alloc, &commit.original_oid)?;
+        let (id, is_known) = self.stored_commit(
+            alloc,
+            backend,
+            commit,
+            ref_name.as_str(),
+            &git_id,
+        )?;
         self.set_commit(commit.mark, ref_name, git_id, id)?;
-        self.count_commit(is_known);
+        self.counts.add_commit(is_known);
+        self.has_new_commits = self.has_new_commits || !is_known;
         Ok(())
-    }
-
-    fn count_commit(&mut self, is_known: bool) {
-        self.counts.commits = self.counts.commits.saturating_add(1);
-        if is_known {
-            self.counts.known_commits = self.counts.known_commits.saturating_add(1);
-        } else {
-            self.has_new_commits = true;
-        }
     }
 
     // Names a commit: by a mark, by a ref, and by Git's id.
@@ -189,7 +312,12 @@ impl Importer {
         ref_name: String,
         git_id: Option<String>,
         id: CommitId,
-    ) -> Result<(), AllocError> {
+    ) -> Result<(), AllocError>
+        requires { IsNewMark (state_of self.old) mark }
+        ensures named { OnOk result (IsSame (with_commit (state_of self.old) mark
+            (string_bytes ref_name) (option_map string_bytes git_id) id) (state_of self.new)) }
+        ensures unchanged { OnErr result (IsSame (state_of self.old) (state_of self.new)) }
+    {
         self.marks.set(mark, Marked::Commit(id.clone()?))?;
         if let Err(error) = self.set_names(ref_name, git_id, id) {
             self.marks.remove(mark);
@@ -204,33 +332,28 @@ impl Importer {
         ref_name: String,
         git_id: Option<String>,
         id: CommitId,
-    ) -> Result<(), AllocError> {
+    ) -> Result<(), AllocError>
+        ensures named { OnOk result (IsSame (with_commit (state_of self.old) None
+            (string_bytes ref_name) (option_map string_bytes git_id) id) (state_of self.new)) }
+        ensures unchanged { OnErr result (IsSame (state_of self.old) (state_of self.new)) }
+    {
         let restored = clone_name(&git_id)?;
         let added = id.clone()?;
-        self.push_new_id(&git_id)?;
+        push_new_id(&mut self.new_ids, &self.names.git_ids, &git_id)?;
         let is_new = add_id(&mut self.names.git_ids, git_id, added)?;
         if let Err(error) = self.set_ref(ref_name, id) {
-            if is_new {
-                remove_id(&mut self.names.git_ids, restored);
-            }
+            remove_id(&mut self.names.git_ids, restored, is_new);
             return Err(error);
         }
         Ok(())
     }
 
-    // Appends an id of Git that has no commit to those that are to be recorded.
-    fn push_new_id(&mut self, git_id: &Option<String>) -> Result<(), AllocError> {
-        if let Some(git_id) = git_id
-            && !self.names.git_ids.contains_key(git_id.as_str())
-        {
-            let copy = git_id.clone()?;
-            self.new_ids.push(copy)?;
-        }
-        Ok(())
-    }
-
     // Sets a ref of the stream, and of the names.
-    fn set_ref(&mut self, name: String, id: CommitId) -> Result<(), AllocError> {
+    fn set_ref(&mut self, name: String, id: CommitId) -> Result<(), AllocError>
+        ensures named { OnOk result (IsSame (with_commit (state_of self.old) None
+            (string_bytes name) None id) (state_of self.new)) }
+        ensures unchanged { OnErr result (IsSame (state_of self.old) (state_of self.new)) }
+    {
         let key = name.clone()?;
         let restored = name.clone()?;
         let stored = id.clone()?;
@@ -247,27 +370,66 @@ impl Importer {
         alloc: Global,
         backend: &mut B,
         blob: &Blob,
-    ) -> Result<(), ImportError> {
+    ) -> Result<(), ImportError>
+        ensures imported { OnOk result ((objects : Objects)
+            → IsExtended (B.objects backend.new) objects → IsCommandImported objects
+            (B.fixed backend.old).root_commit_id (Blobs (blob_value blob.now))
+            (state_of self.old) (state_of self.new)) }
+        ensures unchanged { OnErr result (state_of self.new ≡ state_of self.old) }
+        ensures objects { IsExtended (B.objects backend.old) (B.objects backend.new) }
+        ensures fixed { B.fixed backend.new ≡ B.fixed backend.old }
+    {
         self.marks.check_new(blob.mark)?;
-        let id = backend.write_file(alloc, RepoPath::root(), &blob.data)?;
+        let id = write_contents(alloc, backend, RepoPath::root(), &blob.data)?;
         self.marks.set(blob.mark, Marked::File(id))?;
-        self.counts.blobs = self.counts.blobs.saturating_add(1);
-        let bytes = blob.data.len() as u64;
-        self.counts.blob_bytes = self.counts.blob_bytes.saturating_add(bytes);
+        self.counts.add_blob(blob.data.len() as u64);
         Ok(())
     }
 
     // Sets the ref of a tag to the tagged commit. The tag of a blob is left out.
-    fn import_tag(&mut self, alloc: Global, tag: &Tag) -> Result<(), ImportError> {
+    fn import_tag(&mut self, alloc: Global, tag: &Tag) -> Result<(), ImportError>
+        ensures imported { OnOk result ((objects : Objects) (root : List ℕ)
+            → IsCommandImported objects root (Tags (tag_value tag.now)) (state_of self.old)
+            (state_of self.new)) }
+        ensures unchanged { OnErr result (state_of self.new ≡ state_of self.old) }
+    {
         self.marks.check_new(tag.mark)?;
-        let id = match self.commit_of(alloc, "from", &tag.from) {
-            Ok(id) => id,
-            Err(ImportError::NoCommit { .. }) => return Ok(()),
-            Err(error) => return Err(error),
-        };
-        let mut name = String::from_str(alloc, "refs/tags/")?;
-        name.push_str(text_of(alloc, &tag.name)?.as_str())?;
+        if self.marks.is_blob(&tag.from) {
+            return Ok(());
+        }
+        let id = self.commit_of(alloc, "from", &tag.from)?;
+        let name = tag_ref(alloc, &tag.name)?;
         self.set_commit(tag.mark, name, None, id)?;
+        Ok(())
+    }
+
+    // Sets a ref to the commit of a reference.
+    fn move_ref(
+        &mut self,
+        alloc: Global,
+        ref_name: &[u8],
+        from: &Reference,
+    ) -> Result<(), ImportError>
+        ensures imported { OnOk result ((objects : Objects) (root : List ℕ)
+            → IsCommandImported objects root (Resets ref_name.now
+            (Some (reference_value from.now))) (state_of self.old) (state_of self.new)) }
+        ensures unchanged { OnErr result (state_of self.new ≡ state_of self.old) }
+    {
+        let id = self.commit_of(alloc, "from", from)?;
+        let name = text_of(alloc, ref_name)?;
+        self.set_ref(name, id)?;
+        Ok(())
+    }
+
+    // Leaves a ref without a commit in this stream.
+    fn clear_ref(&mut self, alloc: Global, ref_name: &[u8]) -> Result<(), ImportError>
+        ensures imported { OnOk result ((objects : Objects) (root : List ℕ)
+            → IsCommandImported objects root (Resets ref_name.now None) (state_of self.old)
+            (state_of self.new)) }
+        ensures unchanged { OnErr result (state_of self.new ≡ state_of self.old) }
+    {
+        let name = text_of(alloc, ref_name)?;
+        let _old = set_name(&mut self.stream_refs, name, None)?;
         Ok(())
     }
 
@@ -275,19 +437,17 @@ impl Importer {
         &mut self,
         alloc: Global,
         ref_name: &[u8],
-        from: Option<&Reference>,
-    ) -> Result<(), ImportError> {
-        let name = text_of(alloc, ref_name)?;
+        from: &Option<Reference>,
+    ) -> Result<(), ImportError>
+        ensures imported { OnOk result ((objects : Objects) (root : List ℕ)
+            → IsCommandImported objects root (Resets ref_name.now
+            (option_map reference_value from.now)) (state_of self.old) (state_of self.new)) }
+        ensures unchanged { OnErr result (state_of self.new ≡ state_of self.old) }
+    {
         match from {
-            Some(from) => {
-                let id = self.commit_of(alloc, "from", from)?;
-                self.set_ref(name, id)?;
-            }
-            None => {
-                let _old = set_name(&mut self.stream_refs, name, None)?;
-            }
+            Some(from) => self.move_ref(alloc, ref_name, from),
+            None => self.clear_ref(alloc, ref_name),
         }
-        Ok(())
     }
 
     /// Imports a command. A commit that is stored already, by Git's id, is not written again. A
@@ -300,16 +460,28 @@ impl Importer {
         alloc: Global,
         backend: &mut B,
         command: &Command,
-    ) -> Result<(), ImportError> {
+    ) -> Result<(), ImportError>
+        // The later state is what the command makes of the earlier one, in this store and in each
+        // later one.
+        ensures imported { OnOk result ((objects : Objects)
+            → IsExtended (B.objects backend.new) objects → IsCommandImported objects
+            (B.fixed backend.old).root_commit_id (command_value command.now) (state_of self.old)
+            (state_of self.new)) }
+        // After an error, the marks, the refs and the ids of Git name what they did.
+        ensures unchanged { OnErr result (state_of self.new ≡ state_of self.old) }
+        // The backend has each object that it had.
+        ensures objects { IsExtended (B.objects backend.old) (B.objects backend.new) }
+        ensures fixed { B.fixed backend.new ≡ B.fixed backend.old }
+    {
         match command {
             Command::Blob(blob) => self.import_blob(alloc, backend, blob),
             Command::Commit(commit) => self.import_commit(alloc, backend, commit),
             Command::Tag(tag) => self.import_tag(alloc, tag),
-            Command::Reset { ref_name, from } => self.reset(alloc, ref_name, from.as_ref()),
-            Command::Feature(name) if name.as_slice() != b"done".as_slice() => {
-                Err(ImportError::Unsupported { field: "feature" })
+            Command::Reset { ref_name, from } => self.reset(alloc, ref_name, from),
+            Command::Feature(feature) => check_feature(feature),
+            Command::Option(_) | Command::Progress(_) | Command::Checkpoint | Command::Done => {
+                Ok(())
             }
-            _ => Ok(()),
         }
     }
 }

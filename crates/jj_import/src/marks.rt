@@ -1,9 +1,12 @@
 //! The objects that marks of a stream name.
-ghost use Rattle.std.specs.Prelude.{◌≡◌, ℕ, Some, None, IfOk, OnOk, OnErr};
+ghost use Rattle.std.specs.Prelude.{◌≡◌, ℕ, true, Some, None, IfOk, OnOk, OnErr};
+ghost use Rattle.jj_fast_import.specs.Values.{reference_value};
 ghost use Rattle.jj_import.specs.AppliedChanges.{table_of, with_mark, without_mark};
+ghost use Rattle.jj_import.specs.ImportStates.{IsBlob};
 
 use crate::error::ImportError;
 use jj_backend::backend::{CommitId, FileId};
+use jj_fast_import::command::Reference;
 use std::alloc::{AllocError, Global};
 use std::collections::BTreeMap;
 
@@ -72,6 +75,16 @@ impl Marks {
             Some(Marked::Commit(id)) => Ok(id.clone()?),
             Some(Marked::File(_)) => Err(ImportError::NoCommit { field, mark }),
             None => Err(ImportError::UnknownMark { field, mark }),
+        }
+    }
+
+    // Whether a reference is the mark of a blob.
+    pub(crate) fn is_blob(&self, reference: &Reference) -> bool
+        ensures { result ≡ true → IsBlob (table_of self.now) (reference_value reference.now) }
+    {
+        match reference {
+            Reference::Mark(mark) => matches!(self.objects.get(mark), Some(Marked::File(_))),
+            Reference::Name(_) => false,
         }
     }
 

@@ -1,4 +1,7 @@
 //! The names of commits, stored in the backend as commits of their own: records of names.
+ghost use Rattle.std.specs.Prelude.{◌≡◌, ℕ, List, None};
+ghost use Rattle.jj_import.specs.ImportStates.{names_of};
+
 use jj_backend::backend::{Backend, BackendError, Commit, CommitId, FileId, TreeId, TreeValue};
 use jj_ids::object_id::ObjectId;
 use jj_paths::repo_path::RepoPath;
@@ -194,7 +197,10 @@ fn add_lines(
 
 impl Names {
     /// Returns no names.
-    pub fn new(alloc: Global) -> Self {
+    pub fn new(alloc: Global) -> Self
+        ensures refs { (name : List ℕ) → (names_of result).refs name ≡ None }
+        ensures git_ids { (name : List ℕ) → (names_of result).git_ids name ≡ None }
+    {
         Names {
             refs: BTreeMap::new(alloc),
             git_ids: BTreeMap::new(alloc),

@@ -1,4 +1,12 @@
 //! Import of the commands of a reader, as many commits at a time as are asked for.
+ghost use Rattle.std.specs.Prelude.{◌≡◌, ◌+◌, ◌<◌, IfOk, OnErr};
+ghost use Rattle.std.specs.Option.{MatchOption};
+ghost use Rattle.jj_backend.specs.Objects.{Objects};
+ghost use Rattle.jj_fast_import.specs.Values.{command_value};
+ghost use Rattle.jj_import.specs.ImportStates.{state_of};
+ghost use Rattle.jj_import.specs.ImportedCommands.{IsCommandImported, count_of};
+ghost use Rattle.jj_import.specs.Stored.{IsExtended};
+
 use crate::error::ImportError;
 use crate::importer::Importer;
 use jj_backend::backend::Backend;
@@ -20,6 +28,45 @@ pub enum StreamError {
     Import { line: u64, error: ImportError },
 }
 
+// Reads and imports the next command. Returns none at the end of the stream.
+fn import_next<R: Source, B: Backend>(
+    alloc: Global,
+    importer: &mut Importer,
+    backend: &mut B,
+    reader: &mut CommandReader<R>,
+) -> Result<Option<Command>, StreamError>
+    ensures imported { IfOk result (λ command. (objects : Objects)
+        → IsExtended (B.objects backend.new) objects → MatchOption command
+        (state_of importer.new ≡ state_of importer.old)
+        (λ command. IsCommandImported objects (B.fixed backend.old).root_commit_id
+        (command_value command) (state_of importer.old) (state_of importer.new))) }
+    ensures unchanged { OnErr result (state_of importer.new ≡ state_of importer.old) }
+    ensures objects { IsExtended (B.objects backend.old) (B.objects backend.new) }
+    ensures fixed { B.fixed backend.new ≡ B.fixed backend.old }
+{
+    let line = reader.line();
+    let command = match reader.next_command(alloc) {
+        Ok(Some(command)) => command,
+        Ok(None) => return Ok(None),
+        Err(error) => return Err(StreamError::Read(error)),
+    };
+    match importer.import(alloc, backend, &command) {
+        Ok(()) => Ok(Some(command)),
+        Err(error) => Err(StreamError::Import { line, error }),
+    }
+}
+
+// Returns how many commits are left to import after a command.
+fn left_after(left: usize, command: &Command) -> usize
+    requires { 0 < left }
+    ensures { result + count_of (command_value command.now) ≡ left }
+{
+    match command {
+        Command::Commit(_) => left - 1,
+        _ => left,
+    }
+}
+
 /// Imports commands until `limit` commits of the stream were imported, or until it ends. Returns
 /// whether it has ended.
 ///
@@ -36,21 +83,13 @@ pub fn import_commands<R: Source, B: Backend>(
     let mut left = limit;
     for _ in 0..u64::MAX {
         if left == 0 {
-            break;
+            importer.set_within_stream(true);
+            return Ok(false);
         }
-        let line = reader.line();
-        let command = match reader.next_command(alloc) {
-            Ok(Some(command)) => command,
-            Ok(None) => return Ok(true),
-            Err(error) => return Err(StreamError::Read(error)),
-        };
-        if let Err(error) = importer.import(alloc, backend, &command) {
-            return Err(StreamError::Import { line, error });
-        }
-        if matches!(command, Command::Commit(_)) {
-            left -= 1;
+        match import_next(alloc, importer, backend, reader)? {
+            Some(command) => left = left_after(left, &command),
+            None => return Ok(true),
         }
     }
-    importer.set_within_stream(true);
-    Ok(false)
+    Err(StreamError::Read(reader::StreamError::Read))
 }
