@@ -1,5 +1,12 @@
 # Completion of jj-history for fish: a database, and then a command.
 complete -c jj-history -n 'not __fish_is_first_arg' -f
 complete -c jj-history -n __fish_is_first_arg -F
-complete -c jj-history -n 'test (count (commandline -opc)) -eq 2' -a write -d 'write two branches'
-complete -c jj-history -n 'test (count (commandline -opc)) -eq 2' -a merge -d 'merge two commits'
+set -l second 'test (count (commandline -opc)) -eq 2'
+complete -c jj-history -n $second -a import -d 'read a stream of git fast-export'
+complete -c jj-history -n $second -a log -d 'draw commits and their ancestors'
+complete -c jj-history -n $second -a heads -d 'list the heads of all refs'
+complete -c jj-history -n $second -a refs -d 'list the refs'
+complete -c jj-history -n $second -a bases -d 'list merge bases'
+complete -c jj-history -n $second -a show -d 'show a commit'
+complete -c jj-history -n $second -a files -d 'list the files of a commit'
+complete -c jj-history -n $second -a cat -d 'print a file of a commit'

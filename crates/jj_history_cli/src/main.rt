@@ -1,113 +1,115 @@
-//! The program `jj-history`: two branches of a small tree in an SQLite database, and their merge.
+//! The program `jj-history`: the history of a Git repository in an SQLite database.
 #![tactic(auto)]
 
-mod branches;
-mod drawing;
+mod batches;
+mod database;
 mod fault;
-mod merging;
+mod importing;
+mod session;
 
-use crate::branches::write_branches;
 use crate::fault::Fault;
-use crate::merging::merge_branches;
-use jj_backend::backend::Backend;
-use jj_ids::object_id::CommitId;
-use jj_sqlite::store::{close_store, open_store};
-use sqlite::{Connection, FileStore};
-use sqlite_disk::Disk;
-use std::alloc::Global;
+use crate::session::run_on_store;
+use jj_files::file_util::{Watched, write_all};
+use jj_filter::arguments::{VERSION, arguments};
+use jj_filter::report::write_report;
+use jj_history_commands::arguments::{Command, Request, parse_words};
+use jj_history_commands::usage::{HELP, NAME, SYNOPSIS};
+use jj_sqlite::files::open_store_file;
+use std::fs;
+use std::io::{ErrorKind, IsTerminal};
 use std::process::ExitCode;
-use std::{env, fs};
 
 const USAGE: u8 = 2;
 
-// A command and its operands.
-#[derive(Drop)]
-enum Command {
-    Write,
-    Merge { left: CommitId, right: CommitId },
-}
+// Milliseconds to wait for another process that writes.
+const PATIENCE: u64 = 5000;
 
-// Returns the command that is named after the database, or `None` if there is no such command.
-fn command_of(alloc: Global, words: &[String]) -> Result<Option<Command>, Fault> {
-    match words {
-        [name] if name.as_str() == "write" => Ok(Some(Command::Write)),
-        [name, left, right] if name.as_str() == "merge" => {
-            let left = CommitId::try_from_hex(alloc, left.as_str())?;
-            let right = CommitId::try_from_hex(alloc, right.as_str())?;
-            match (left, right) {
-                (Some(left), Some(right)) => Ok(Some(Command::Merge { left, right })),
-                _ => Err(Fault::NotHex),
-            }
+// Returns the reason why a database cannot be at this path. Only `import` creates one.
+fn path_fault(rt: &HostRuntime, file: &str, imports: bool) -> Option<&'static str> {
+    match fs::metadata(rt, file) {
+        Ok(metadata) if metadata.is_dir() => Some("a directory; expected a database"),
+        Err(error) if error.kind() == ErrorKind::NotFound && !imports => {
+            Some("no such file; `import` creates a database")
         }
-        _ => Ok(None),
+        _ => None,
     }
 }
 
-// Runs a command and returns its output.
-fn run<B: Backend>(alloc: Global, store: &mut B, command: Command) -> Result<String, Fault> {
-    match command {
-        Command::Write => write_branches(alloc, store),
-        Command::Merge { left, right } => merge_branches(alloc, store, left, right),
+fn run(rt: &HostRuntime, file: &str, command: &Command) -> Result<Vec<u8>, Fault> {
+    let alloc = rt.alloc();
+    let imports = matches!(command, Command::Import);
+    let stdin = rt.stdin();
+    if imports && stdin.is_terminal() {
+        let _ = eprintln!(rt; "{NAME}: reads a stream of git fast-export, up to Ctrl-D");
     }
+    let stderr = rt.stderr();
+    let on_terminal = imports && stderr.is_terminal();
+    let mut errors = Watched::new(stderr);
+    let source = Watched::new(stdin);
+    let opened = open_store_file(rt, file, PATIENCE);
+    run_on_store(alloc, opened, command, source, &mut errors, on_terminal)
 }
 
-// Opens the store, runs a command and closes the store, so that a copy of the database file is a
-// backup. Generic over the files, so that a drop of them is proved once.
-fn run_on_store<D: Disk + Drop>(
-    alloc: Global,
-    conn: Connection<FileStore<D>>,
-    command: Command,
-) -> Result<String, Fault> {
-    let mut store = match open_store(alloc, conn) {
-        Ok(store) => store,
-        Err((error, _)) => return Err(Fault::Open(error)),
+fn report(rt: &HostRuntime, file: &str, fault: &Fault) {
+    let _ = match fault {
+        Fault::Database(error) => eprintln!(rt; "{NAME}: {file}: {error}"),
+        fault => eprintln!(rt; "{NAME}: {fault}"),
     };
-    let output = run(alloc, &mut store, command);
-    match close_store(store) {
-        Ok(_) => output,
-        Err(error) => Err(Fault::Close(error)),
+}
+
+fn write_output(rt: &HostRuntime, output: &[u8]) -> ExitCode {
+    match write_all(&mut Watched::new(rt.stdout()), output) {
+        Ok(()) => ExitCode::SUCCESS,
+        Err(error) => {
+            if error.kind() != ErrorKind::BrokenPipe {
+                let _ = eprintln!(rt; "{NAME}: cannot write output");
+            }
+            ExitCode::FAILURE
+        }
     }
 }
 
-// Runs the command on the database, which only `write` creates.
-fn run_on_file(rt: &HostRuntime, words: &[String]) -> Result<Option<String>, Fault> {
-    let [file, words @ ..] = words else {
-        return Ok(None);
-    };
-    let Some(command) = command_of(rt.alloc(), words)? else {
-        return Ok(None);
-    };
-    let is_new = matches!(fs::exists(rt, file.as_str()), Ok(false));
-    if is_new && !matches!(&command, Command::Write) {
-        return Err(Fault::NoDatabase);
+fn run_on_file(rt: &HostRuntime, file: &str, command: &Command) -> ExitCode {
+    if let Some(fault) = path_fault(rt, file, matches!(command, Command::Import)) {
+        let _ = eprintln!(rt; "{NAME}: {file}: {fault}");
+        return ExitCode::FAILURE;
     }
-    let conn = Connection::open(rt, file.as_str())?;
-    Ok(Some(run_on_store(rt.alloc(), conn, command)?))
+    match run(rt, file, command) {
+        Ok(output) => write_output(rt, &output),
+        Err(fault) => {
+            report(rt, file, &fault);
+            ExitCode::FAILURE
+        }
+    }
 }
 
-fn words(rt: &HostRuntime) -> Option<Vec<String>> {
-    env::args(rt).ok()?.skip(1).collect(rt.alloc()).ok()
+fn perform(rt: &HostRuntime, request: Request) -> ExitCode {
+    match request {
+        Request::Help => {
+            let _ = print!(rt; "{SYNOPSIS}{HELP}");
+            ExitCode::SUCCESS
+        }
+        Request::Version => {
+            let _ = println!(rt; "{NAME} in Rattle {VERSION}");
+            ExitCode::SUCCESS
+        }
+        Request::Run { database, command } => run_on_file(rt, database.as_str(), &command),
+    }
 }
 
 fn main(rt: HostRuntime) -> ExitCode {
-    let Some(words) = words(&rt) else {
-        let _ = eprintln!(rt; "jj-history: out of memory");
-        return ExitCode::FAILURE;
-    };
-    match run_on_file(&rt, &words) {
-        Ok(Some(output)) => match print!(rt; "{output}") {
-            Ok(()) => ExitCode::SUCCESS,
-            Err(_) => ExitCode::FAILURE,
-        },
-        Ok(None) => {
-            let _ = eprintln!(rt;
-                "usage: jj-history DATABASE write | jj-history DATABASE merge LEFT RIGHT"
-            );
-            ExitCode::from(USAGE)
+    let words = match arguments(&rt) {
+        Ok(words) => words,
+        Err(error) => {
+            let mut errors = Watched::new(rt.stderr());
+            return ExitCode::from(write_report(&mut errors, NAME, &error));
         }
-        Err(fault) => {
-            let _ = eprintln!(rt; "jj-history: {fault}");
-            ExitCode::FAILURE
+    };
+    match parse_words(rt.alloc(), &words) {
+        Ok(request) => perform(&rt, request),
+        Err(error) => {
+            let _ = eprint!(rt; "{NAME}: {error}\n{SYNOPSIS}");
+            ExitCode::from(USAGE)
         }
     }
 }
