@@ -5,11 +5,15 @@ ghost use Rattle.contracts_programs.specs.Outputs.{CanFailBy};
 
 use crate::memory;
 use jj_filter::failure::Failure;
-use jj_program::program::{Command, Fault};
+use jj_program::program::{Command, FaultReport};
 use std::alloc::Global;
 
 /// A command as a filter, on an input in memory.
-pub fn output_of(alloc: Global, command: Command, input: &[u8]) -> Result<Vec<u8>, Failure<Fault>>
+pub fn output_of(
+    alloc: Global,
+    command: Command,
+    input: &[u8],
+) -> Result<Vec<u8>, Failure<FaultReport>>
     ensures done { IfOk result (λ output. HasResult command input.now (Ok output.items)) }
     ensures fails { IfErr result (CanFailBy command input.now) }
 {

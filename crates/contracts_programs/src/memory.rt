@@ -6,14 +6,14 @@ ghost use Rattle.contracts_programs.specs.Outputs.{CanFailBy};
 use jj_files::file_util::Watched;
 use jj_filter::failure::Failure;
 use jj_filter::filter::run;
-use jj_program::program::{Command, Fault};
+use jj_program::program::{Command, FaultReport};
 use std::alloc::Global;
 
 pub(crate) fn output(
     alloc: Global,
     command: Command,
     input: &[u8],
-) -> Result<Vec<u8>, Failure<Fault>>
+) -> Result<Vec<u8>, Failure<FaultReport>>
     ensures done { IfOk result (λ output. HasResult command input.now (Ok output.items)) }
     ensures fails { IfErr result (CanFailBy command input.now) }
 {

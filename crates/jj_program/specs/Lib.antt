@@ -15,6 +15,7 @@ pub mod GraphViews
 pub mod ListedGraphs
 pub mod HashCommand
 pub mod HashViews
+pub mod Messages
 pub mod Program
 pub mod Reports
 pub mod Laws

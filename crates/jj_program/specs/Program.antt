@@ -1,16 +1,18 @@
 -- The result of a command on an input.
--- Cited by contracts of public items: FaultsOf, OutputsOf, command_line, command_named.
-use Rattle.std.specs.Prelude.{◌≡◌, ℕ, List, [], ◌∷◌, if◌then◌else◌, codes, Option, Some, None, Result, Ok, Err}
+-- Cited by contracts of public items: OutputsOf, ReportsOf, command_line, command_named.
+use Rattle.std.specs.Prelude.{◌≡◌, ℕ, List, [], ◌∷◌, if◌then◌else◌, codes, Option, Some, None, Result, Ok, Err, string_bytes}
 use Rattle.std.specs.Bool.{MatchBool}
 use Rattle.std.specs.Str.{bytes_eq, is_utf8}
 use Rattle.jj_program.specs.declared.fault.Fault.{Fault}
 use Rattle.jj_program.specs.declared.fault.Fault.TheVariants.{NotUtf8}
+use Rattle.jj_program.specs.declared.fault.FaultReport.{FaultReport}
 use Rattle.jj_program.specs.declared.program.Command.{Command}
 use Rattle.jj_program.specs.declared.program.Command.TheVariants.{Walk, Merge, Graph, Hash}
 use Rattle.jj_program.specs.WalkCommand.{IsWalkResult}
 use Rattle.jj_program.specs.MergeCommand.{IsMergeResult}
 use Rattle.jj_program.specs.GraphCommand.{IsGraphResult}
 use Rattle.jj_program.specs.HashCommand.{hash_output}
+use Rattle.jj_program.specs.Messages.{message_of}
 
 -- the command with this name
 abbrev pub command_named : List ℕ → Option Command
@@ -45,3 +47,8 @@ OutputsOf command input output outcome = HasResult command input (Ok output)
 
 abbrev pub FaultsOf : Command → List ℕ → Fault → Type 0
 FaultsOf command input fault = HasResult command input (Err fault)
+
+-- the report of a fault: its message names the line and the field, and quotes it
+abbrev pub ReportsOf : Command → List ℕ → FaultReport → Type 0
+ReportsOf command input report = FaultsOf command input report.fault
+    × (string_bytes report.message ≡ message_of command input report.fault)

@@ -1,6 +1,5 @@
-//! Faults of an input, and their messages.
-ghost use Rattle.std.specs.Prelude.{◌≡◌, ◌++◌, Some};
-ghost use Rattle.jj_program.specs.Reports.{fault_text, line_fault_text};
+//! Faults of an input.
+ghost use Rattle.std.specs.Prelude.{◌≡◌, ◌++◌, Some, string_bytes};
 
 use itoa::Buffer;
 use jj_filter::report::Report;
@@ -28,34 +27,20 @@ pub enum Fault {
     Line { line: usize, kind: LineFault },
 }
 
-impl LineFault {
-    fn as_str(self) -> &'static str
-        ensures { result.now ≡ line_fault_text self }
-    {
-        match self {
-            LineFault::UnknownCommand => "unknown command",
-            LineFault::BadFieldCount => "bad field count",
-            LineFault::BadPath => "bad path",
-            LineFault::BadGlob => "bad glob",
-            LineFault::EmptyStack => "empty stack",
-            LineFault::BadNumber => "bad number",
-            LineFault::RepeatedNode => "repeated node",
-            LineFault::BadHex => "bad hex",
-        }
-    }
+/// A fault with its message: the line and the field, which it quotes, and what was expected.
+#[derive(Debug, Drop, PartialEq, Eq)]
+pub struct FaultReport {
+    pub fault: Fault,
+    pub message: String,
 }
 
-impl Report for Fault {
-    ghost text = { fault_text };
+impl Report for FaultReport {
+    ghost text = { λ report. string_bytes report.message };
 
     ghost status = { λ _. 1 };
 
-    fn parts<'a>(&'a self, digits: &'a mut Buffer) -> (&'a str, &'a str, &'a str, &'a str) {
-        match *self {
-            Fault::NotUtf8 => ("input is not UTF-8", "", "", ""),
-            Fault::Matchers(count) => (digits.format(count), " matchers at end", "", ""),
-            Fault::Line { line, kind } => ("line ", digits.format(line), ": ", kind.as_str()),
-        }
+    fn parts<'a>(&'a self, _digits: &'a mut Buffer) -> (&'a str, &'a str, &'a str, &'a str) {
+        (self.message.as_str(), "", "", "")
     }
 
     fn status(&self) -> u8 {
@@ -63,24 +48,12 @@ impl Report for Fault {
     }
 }
 
-impl fmt::Display for LineFault {
-    ghost output = { λ kind. Some (line_fault_text kind) };
+impl fmt::Display for FaultReport {
+    ghost output = { λ report. Some (string_bytes report.message) };
 
     fn fmt<W: fmt::Write>(&self, f: &mut fmt::Formatter<W>) -> fmt::Result {
-        f.write_str(self.as_str())
+        f.write_str(self.message.as_str())
     }
 }
 
-impl fmt::Display for Fault {
-    ghost output = { λ fault. Some (fault_text fault) };
-
-    fn fmt<W: fmt::Write>(&self, f: &mut fmt::Formatter<W>) -> fmt::Result {
-        let mut digits = Buffer::new();
-        let (first, second, third, fourth) = self.parts(&mut digits);
-        write!(f, "{first}{second}{third}{fourth}")
-    }
-}
-
-impl Error for LineFault {}
-
-impl Error for Fault {}
+impl Error for FaultReport {}

@@ -43,7 +43,7 @@ impl Shape {
 }
 
 // Whether a field is the separator between two lists.
-fn is_dash(field: &str) -> bool
+pub(crate) fn is_dash(field: &str) -> bool
     ensures { result ≡ is_dash field.now }
 {
     field == "-"
@@ -97,7 +97,7 @@ fn split_pairs<'t>(
 }
 
 // Finds the row of a word.
-fn form_of<A: Copy>(forms: &[(&str, Shape, A)], word: &str) -> Option<(Shape, A)>
+pub(crate) fn form_of<A: Copy>(forms: &[(&str, Shape, A)], word: &str) -> Option<(Shape, A)>
     ensures { result ≡ form_named (borrowed_table forms.now) word.now }
 {
     for (own, shape, action) in forms {

@@ -16,6 +16,7 @@ mod merge_counts;
 mod merge_outcome;
 mod merge_pairs;
 mod merge_simplify;
+mod message;
 mod numbering;
 pub mod program;
 mod term_classes;

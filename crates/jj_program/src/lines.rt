@@ -78,7 +78,7 @@ pub fn take_lines<'t, M: Reading<'t>>(
 }
 
 // Replaces the contents of `fields` by the fields of the first line, and returns its length.
-fn split_line<'t>(fields: &mut Vec<&'t str>, text: &'t str) -> Result<usize, AllocError>
+pub(crate) fn split_line<'t>(fields: &mut Vec<&'t str>, text: &'t str) -> Result<usize, AllocError>
     ensures fields { OnOk result (texts_of fields.new.items
         ≡ fields_of (before_first (λ b. b == 10) text.now)) }
     ensures length { IfOk result (λ length. length ≡ position_or_len (λ b. b == 10) text.now) }

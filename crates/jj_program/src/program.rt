@@ -1,17 +1,18 @@
 //! Entry points of the program: the commands as filters, and the command line.
-ghost use Rattle.std.specs.Prelude.{◌≡◌, map, false, Result, Ok, IfOk, IfErr, IfSome, None, string_bytes};
+ghost use Rattle.std.specs.Prelude.{◌≡◌, map, false, Result, Ok, Err, IfOk, IfErr, IfSome, None, string_bytes};
 ghost use Rattle.jj_files.specs.Streams.{streams};
 ghost use Rattle.jj_filter.specs.Reports.{Reports, WritesLine};
 ghost use Rattle.jj_filter.specs.Runs.{EndsBy, IsInputFailure, is_read_failure, is_write_failure};
 ghost use Rattle.jj_filter.specs.declared.failure.Failure.{Failure};
-ghost use Rattle.jj_program.specs.Program.{command_named, command_line, HasResult, OutputsOf, FaultsOf};
+ghost use Rattle.jj_program.specs.Program.{command_named, command_line, HasResult, OutputsOf, FaultsOf, ReportsOf};
 ghost use Rattle.jj_program.specs.Reports.{report_text, status_of, usage_text};
-ghost use Rattle.jj_program.specs.declared.fault.Fault.{Fault};
+ghost use Rattle.jj_program.specs.declared.fault.FaultReport.{FaultReport as FaultReportValue};
 
-pub use crate::fault::{Fault, LineFault};
+pub use crate::fault::{Fault, FaultReport, LineFault};
 use crate::graph_command::graph_output;
 use crate::hash_command::hash_output;
 use crate::merge_command::merge_output;
+use crate::message::message_of;
 use crate::walk_command::walk_output;
 use jj_files::file_util::{Sink, Source};
 use jj_filter::failure::Failure;
@@ -62,20 +63,47 @@ fn output(alloc: Global, command: Command, input: &[u8]) -> Result<Vec<u8>, Fail
     }
 }
 
+// Returns a fault of the input with its message, or out of memory.
+fn report_of(alloc: Global, command: Command, input: &[u8], fault: Fault) -> Failure<FaultReport>
+    ensures { HasResult command input.now (Err fault)
+        → IsInputFailure (ReportsOf command input.now) result }
+{
+    match message_of(alloc, command, input, fault) {
+        Ok(message) => Failure::Input(FaultReport { fault, message }),
+        Err(_) => Failure::Memory,
+    }
+}
+
+// Runs the command on the input, and describes its fault.
+fn reported_output(
+    alloc: Global,
+    command: Command,
+    input: &[u8],
+) -> Result<Vec<u8>, Failure<FaultReport>>
+    ensures done { IfOk result (λ output. HasResult command input.now (Ok output.items)) }
+    ensures fault { IfErr result (IsInputFailure (ReportsOf command input.now)) }
+{
+    match output(alloc, command, input) {
+        Ok(output) => Ok(output),
+        Err(Failure::Input(fault)) => Err(report_of(alloc, command, input, fault)),
+        Err(_) => Err(Failure::Memory),
+    }
+}
+
 impl Filter for Command {
-    ghost use Rattle.std.specs.Prelude.{Ok, Err};
-    ghost use Rattle.jj_program.specs.Program.{HasResult};
+    ghost use Rattle.std.specs.Prelude.{Ok};
+    ghost use Rattle.jj_program.specs.Program.{HasResult, ReportsOf};
 
     type Outcome = ();
 
-    type Fault = Fault;
+    type Fault = FaultReport;
 
     ghost yields = { λ command input output _. HasResult command input (Ok output) };
 
-    ghost fails = { λ command input fault. HasResult command input (Err fault) };
+    ghost fails = { λ command input report. ReportsOf command input report };
 
-    fn output(&self, alloc: Global, input: &[u8]) -> Result<(Vec<u8>, ()), Failure<Fault>> {
-        Ok((output(alloc, *self, input)?, ()))
+    fn output(&self, alloc: Global, input: &[u8]) -> Result<(Vec<u8>, ()), Failure<FaultReport>> {
+        Ok((reported_output(alloc, *self, input)?, ()))
     }
 }
 
@@ -115,7 +143,8 @@ pub fn start<R: Source, W: Sink, E: Sink>(
         usage_text }
     // If they are one, the command was run; status and line are those of how the run ended.
     ensures run { IfSome (command_line (map string_bytes words.now)) (λ command.
-        (ended : Result (Unit {0}) (Failure Fault)) × EndsBy (OutputsOf command) (FaultsOf command)
+        (ended : Result (Unit {0}) (Failure FaultReportValue))
+        × EndsBy (OutputsOf command) (ReportsOf command)
         (streams (R.remaining reader.old) (W.contents writer.old))
         (streams (R.remaining reader.new) (W.contents writer.new)) ended
         × (R.has_failed reader.old ≡ false → R.has_failed reader.new ≡ is_read_failure ended)

@@ -10,11 +10,11 @@ use Rattle.jj_filter.specs.declared.failure.Failure.{Failure}
 use Rattle.jj_filter.specs.declared.failure.Failure.TheVariants.{ReadInput, Memory, WriteOutput, Input}
 use Rattle.jj_filter.proofs.InMemory.{failed, wrote}
 use Rattle.jj_program.specs.declared.fault.Fault.{Fault}
-use Rattle.jj_program.specs.declared.fault.Fault.TheVariants.{NotUtf8, Matchers, Line}
+use Rattle.jj_program.specs.declared.fault.FaultReport.{FaultReport}
 use Rattle.jj_program.specs.declared.program.Command.{Command}
 use Rattle.jj_program.specs.declared.program.Command.TheVariants.{Walk}
 use Rattle.jj_program.specs.LineFaults.{FaultsAreOfFirstKinds}
-use Rattle.jj_program.specs.Program.{FaultsOf, HasResult, HasResultOnText, OutputsOf}
+use Rattle.jj_program.specs.Program.{HasResult, HasResultOnText, OutputsOf, ReportsOf}
 use Rattle.jj_program.specs.Reports.{status_of}
 use Rattle.jj_program_tests.specs.Outputs.{CanFailBy, IsFaultOfWalk, IsRunOf}
 
@@ -23,15 +23,13 @@ pub text_gives : (command : Command) (text : List ℕ) (answer : Result (List �
 text_gives command text answer utf8 given = let e : is_utf8 text ≡ true = is_utf8-from_IsUtf8 text utf8 in rw e at given
 
 -- the fault of a walk is determined by its input
-pub walk_fault : FaultsAreOfFirstKinds → (text : List ℕ) → IsUtf8 text → (failure : Failure Fault) → CanFailBy Walk text failure → IsFaultOfWalk text failure
+pub walk_fault : FaultsAreOfFirstKinds → (text : List ℕ) → IsUtf8 text → (failure : Failure FaultReport) → CanFailBy Walk text failure → IsFaultOfWalk text failure
 walk_fault law text utf8 ReadInput h = tt
 walk_fault law text utf8 Memory h = tt
 walk_fault law text utf8 (WriteOutput is_closed) h = tt
-walk_fault law text utf8 (Input NotUtf8) h = law Walk text (Err NotUtf8) (text_gives Walk text (Err NotUtf8) utf8 h)
-walk_fault law text utf8 (Input (Matchers count)) h = law Walk text (Err (Matchers count)) (text_gives Walk text (Err (Matchers count)) utf8 h)
-walk_fault law text utf8 (Input (Line number kind)) h = law Walk text (Err (Line number kind)) (text_gives Walk text (Err (Line number kind)) utf8 h)
+walk_fault law text utf8 (Input report) h = record { determined = law Walk text (Err report.fault) (text_gives Walk text (Err report.fault) utf8 h.0); message = h.1 }
 
-status_one : (failure : Failure Fault) → failure_status (λ (fault : Fault). 1) failure ≡ 1
+status_one : (failure : Failure FaultReport) → failure_status (λ (report : FaultReport). 1) failure ≡ 1
 status_one ReadInput = refl
 status_one Memory = refl
 status_one (WriteOutput is_closed) = refl
@@ -40,8 +38,8 @@ status_one (Input fault) = refl
 -- a run of the program ends by its command line
 pub ends : (line : Option Command) (input source : List ℕ) → source ≡ input → (unread : Option (List ℕ)) (sunk bytes output : List ℕ) → sunk ≡ [] → output ≡ bytes → (status : ℕ)
     → (line ≡ None → (status ≡ 2) × (Some bytes ≡ Some sunk))
-    → IfSome line (λ command. (ended : Result (Unit {0}) (Failure Fault))
-    × EndsBy (OutputsOf command) (FaultsOf command) (streams (Some source) (Some sunk)) (streams unread (Some bytes)) ended × (status ≡ status_of ended))
+    → IfSome line (λ command. (ended : Result (Unit {0}) (Failure FaultReport))
+    × EndsBy (OutputsOf command) (ReportsOf command) (streams (Some source) (Some sunk)) (streams unread (Some bytes)) ended × (status ≡ status_of ended))
     → MatchOption line ((status ≡ 2) × (output ≡ [])) (λ command. IsRunOf command input status output)
 ends None input source is unread sunk bytes output empty same status usage run =
     let u = usage refl in
@@ -49,10 +47,10 @@ ends None input source is unread sunk bytes output empty same status usage run =
     (u.0, same ∙ kept ∙ empty)
 ends (Some command) input source is unread sunk bytes output empty same status usage run = by run.0 run.1 run.2
   where
-    by : (ended : Result (Unit {0}) (Failure Fault)) → EndsBy (OutputsOf command) (FaultsOf command) (streams (Some source) (Some sunk)) (streams unread (Some bytes)) ended
+    by : (ended : Result (Unit {0}) (Failure FaultReport)) → EndsBy (OutputsOf command) (ReportsOf command) (streams (Some source) (Some sunk)) (streams unread (Some bytes)) ended
         → status ≡ status_of ended → IsRunOf command input status output
-    by (Ok done) h told = inl (told, wrote (OutputsOf command) (FaultsOf command) input source is unread sunk bytes output empty same done h)
+    by (Ok done) h told = inl (told, wrote (OutputsOf command) (ReportsOf command) input source is unread sunk bytes output empty same done h)
     by (Err failure) h told = inr (
       told ∙ status_one failure,
-      (failure, failed (OutputsOf command) (FaultsOf command) input source is unread (Some sunk) (Some bytes) failure h),
+      (failure, failed (OutputsOf command) (ReportsOf command) input source is unread (Some sunk) (Some bytes) failure h),
     )

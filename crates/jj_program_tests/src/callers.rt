@@ -7,11 +7,15 @@ use jj_files::file_util::Watched;
 use jj_filter::failure::Failure;
 use jj_filter::filter::run;
 use jj_program::laws::{faults_are_of_first_kinds, walks_find_their_files};
-use jj_program::program::{Command, Fault, start};
+use jj_program::program::{Command, FaultReport, start};
 use std::alloc::Global;
 
 /// Returns the output of a command for these bytes.
-pub fn output_of(alloc: Global, command: Command, input: &[u8]) -> Result<Vec<u8>, Failure<Fault>>
+pub fn output_of(
+    alloc: Global,
+    command: Command,
+    input: &[u8],
+) -> Result<Vec<u8>, Failure<FaultReport>>
     ensures done { IfOk result (λ output. HasResult command input.now (Ok output.items)) }
     ensures fails { IfErr result (CanFailBy command input.now) }
 {
@@ -23,7 +27,7 @@ pub fn output_of(alloc: Global, command: Command, input: &[u8]) -> Result<Vec<u8
 
 /// Returns the output of `walk`: the marked paths in the set that the input describes, each once
 /// and in path order, then the directories entered. A fault is that of the first faulty line.
-pub fn found_files(alloc: Global, text: &str) -> Result<Vec<u8>, Failure<Fault>>
+pub fn found_files(alloc: Global, text: &str) -> Result<Vec<u8>, Failure<FaultReport>>
     ensures found { IfOk result (λ output. FindsFiles text.now output.items) }
     ensures fails { IfErr result (IsFaultOfWalk text.now) }
 {

@@ -3,7 +3,7 @@ use crate::ends::{Cut, Kept};
 use jj_files::file_util::Watched;
 use jj_filter::failure::Failure;
 use jj_filter::filter::run;
-use jj_program::program::{Command, Fault};
+use jj_program::program::{Command, FaultReport};
 use std::alloc::Global;
 use std::process::Abort;
 
@@ -16,7 +16,7 @@ pub fn outcome(
     most: usize,
     reads: u32,
     writes: u32,
-) -> (Result<(), Failure<Fault>>, Kept) {
+) -> (Result<(), Failure<FaultReport>>, Kept) {
     let mut reader = Watched::new(Cut {
         rest: input,
         most,
@@ -56,9 +56,9 @@ fn calls(text: &str, most: usize) -> usize {
 // fault, or be out of memory.
 fn is_done<R: Abort>(
     rt: &R,
-    answer: Result<(), Failure<Fault>>,
+    answer: Result<(), Failure<FaultReport>>,
     lasts: bool,
-    expected: Failure<Fault>,
+    expected: Failure<FaultReport>,
 ) -> bool {
     match answer {
         Ok(()) => {
@@ -91,7 +91,9 @@ pub fn reads_fail(rt: &(impl Abort + AllocGlobal), command: Command, input: &str
 }
 
 // The failure of `Kept`.
-const CLOSED: Failure<Fault> = Failure::WriteOutput { is_closed: true };
+fn closed() -> Failure<FaultReport> {
+    Failure::WriteOutput { is_closed: true }
+}
 
 /// Each write fails in turn, and then a prefix of the output was written.
 pub fn writes_fail(rt: &(impl Abort + AllocGlobal), command: Command, input: &str, output: &str) {
@@ -100,7 +102,7 @@ pub fn writes_fail(rt: &(impl Abort + AllocGlobal), command: Command, input: &st
         for writes in 0..60u32 {
             let (result, kept) = outcome(rt.alloc(), command, input.as_bytes(), most, 1000, writes);
             let lasts = usize::try_from(writes).is_ok_and(|writes| writes >= needed);
-            let is_done = is_done(rt, result, lasts, CLOSED);
+            let is_done = is_done(rt, result, lasts, closed());
             let is_whole = kept.as_slice().len() == output.len();
             assert!(rt;
                 output.as_bytes().starts_with(kept.as_slice()),
