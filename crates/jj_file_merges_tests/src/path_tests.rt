@@ -203,7 +203,7 @@ fn conflicts_are_marked_as_in_git(rt: HostRuntime) {
 // Resolves versions in a store whose reads fail after `between` of them. Whether the result is the
 // error of a read, or the file after as many reads as are needed.
 fn fails_or_resolves(alloc: Global, versions: &Versions, needed: u32) -> BackendResult<bool> {
-    for between in 0..needed + 1 {
+    for between in 0..needed.saturating_add(1) {
         let mut inner = MemoryBackend::new(alloc)?;
         let values = write_versions(alloc, &mut inner, versions)?;
         let mut failing = FailingReads::new(inner, between);

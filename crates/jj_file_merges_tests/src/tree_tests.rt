@@ -1,10 +1,11 @@
 //! Tests of merges of trees and of the files in conflict. The expected trees are worked by hand
 //! from those of `git merge-file` for each file.
-use crate::fixtures::{LINES, Row, labels, three, write_tree};
+use crate::fixtures::{LINES, Row, three, write_tree};
 use jj_backend::backend::BackendResult;
 use jj_conflicts::conflicts::ConflictMarkerStyle;
 use jj_content_tests::retry::holds;
 use jj_file_merges::trees::{FileMerge, Outcome, merge_files};
+use jj_merges::conflict_labels::ConflictLabels;
 use jj_trees::memory_backend::MemoryBackend;
 use std::alloc::Global;
 use std::process::Abort;
@@ -49,12 +50,9 @@ const MARKED: &[Row] = &[
     ("clean", "A\nb\nC\n"),
     (
         "d/conflict",
-        "*a\n<<<<<<< left\nx\n||||||| base\nb\n=======\ny\n>>>>>>> right\nc\n",
+        "*a\n<<<<<<<\nx\n|||||||\nb\n=======\ny\n>>>>>>>\nc\n",
     ),
-    (
-        "gone",
-        "<<<<<<< left\n||||||| base\na\n=======\nb\n>>>>>>> right\n",
-    ),
+    ("gone", "<<<<<<<\n|||||||\na\n=======\nb\n>>>>>>>\n"),
     ("left", "b\n"),
     ("new", "x\n"),
     ("same", "a\n"),
@@ -69,15 +67,18 @@ fn merge_rows(
     let base = write_tree(alloc, backend, BASE)?;
     let right = write_tree(alloc, backend, RIGHT)?;
     let trees = three(alloc, left, base, right)?;
-    merge_files(alloc, backend, &trees, &labels(alloc)?, &LINES, style)
+    let labels = ConflictLabels::unlabeled(alloc);
+    merge_files(alloc, backend, &trees, &labels, &LINES, style)
 }
 
 // Returns a line of the path and the kind of the outcome for each conflict.
 fn outcome_lines(alloc: Global, merged: &FileMerge) -> BackendResult<String> {
     let mut output = String::new(alloc);
     for i in 0..merged.outcomes.len() {
-        let path = merged.merge.conflicts[i].0.as_path();
-        output.push_str(path.as_internal_file_string())?;
+        let Some(conflict) = merged.merge.conflicts.get(i) else {
+            return Ok(output);
+        };
+        output.push_str(conflict.0.as_path().as_internal_file_string())?;
         output.push_str(match &merged.outcomes[i] {
             Outcome::Merged(_) => " merged\n",
             Outcome::Marked(_) => " marked\n",
