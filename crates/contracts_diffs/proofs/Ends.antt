@@ -1,5 +1,5 @@
 -- Common lines of two byte strings as common starts and ends of the inputs of a comparison.
-use Rattle.std.proofs.Common.{◌≡◌, ◌≢◌, ℕ, suc, zero, ◌+◌, ◌-◌, ◌<◌, ◌≤◌, List, [], ◌∷◌, ◌++◌, length, take, drop, get_or, refl, ap, sym, ◌∙◌, subst, arith, lit<, inl, inr, ◌⊎◌, length-append, Bool, true, false, not, ◌==◌, ◌||◌, eq-eqb, All}
+use Rattle.std.proofs.Common.{◌≡◌, ℕ, suc, zero, ◌+◌, ◌-◌, ◌<◌, ◌≤◌, List, [], ◌∷◌, ◌++◌, length, take, drop, get_or, refl, ap, sym, ◌∙◌, subst, arith, lit<, inl, inr, length-append, Bool, true, false, not, ◌||◌, eq-eqb, All}
 use Rattle.std.proofs.lemmas.Bool.{cases_lt}
 use Rattle.std.proofs.lemmas.Grind.{common_steps, elements}
 use Rattle.jj_diff.specs.declared.diff.hunks.DiffHunk.{DiffHunk}
@@ -37,7 +37,7 @@ cut_after t xs ys ends = elim ends [
 ]
 
 -- a fact on each of two inputs
-both : (P : ℕ → Type 0) → P 0 → P 1 → (i : ℕ) → i < 2 → P i
+pub both : (P : ℕ → Type 0) → P 0 → P 1 → (i : ℕ) → i < 2 → P i
 both P p q zero lt = p
 both P p q (suc zero) lt = q
 both P p q (suc (suc i)) lt = absurd (omega arith)

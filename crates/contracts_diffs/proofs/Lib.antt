@@ -1,3 +1,5 @@
 pub mod Ends
 pub mod Ranges
 pub mod Refined
+pub mod Shared
+pub mod Tokens

@@ -1,12 +1,12 @@
 -- Whole lines of byte strings, and hunks of two versions.
--- Cited by contracts of public items: EndsInLine, StartsApart, EndsApart, SharesNoLine.
-use Rattle.std.specs.Prelude.{◌≡◌, ◌⊎◌, ℕ, ◌-◌, ◌≤◌, ◌++◌, List, [], ◌∷◌, length, filter, slice_index}
-use Rattle.std.specs.List.{range_with_len}
+-- Cited by contracts of public items: EndsInLine, StartsApart, EndsApart, SharesNoLine, KeepsLines.
+use Rattle.std.specs.Prelude.{◌≡◌, ◌⊎◌, ℕ, ◌-◌, ◌≤◌, ◌++◌, List, [], ◌∷◌, length, filter, All, Any, slice_index}
+use Rattle.std.specs.List.{range_with_len, slice_index_or}
 use Rattle.jj_diff.specs.declared.diff.hunks.DiffHunk.{DiffHunk}
-use Rattle.jj_diff.specs.declared.diff.hunks.DiffHunkKind.TheVariants.{Different}
+use Rattle.jj_diff.specs.declared.diff.hunks.DiffHunkKind.TheVariants.{Matching, Different}
 use Rattle.jj_diff.specs.declared.diff.tokens.Tokenizer.TheVariants.{Lines}
 use Rattle.jj_diff.specs.Tokens.{is_line_end}
-use Rattle.jj_diff.specs.Anchors.{StandsOnce}
+use Rattle.jj_diff.specs.Anchors.{StandsAt, StandsOnce, token_offsets}
 use Rattle.jj_diff.specs.Hunks.{row_of}
 
 -- nothing, or a byte string that ends in LF
@@ -33,3 +33,41 @@ abbrev pub SharesNoLine : DiffHunk → Type 0
 SharesNoLine hunk = hunk.kind ≡ Different → (left right line : List ℕ)
     → row_of hunk ≡ left ∷ right ∷ [] → HasFewLines left → HasFewLines right
     → StandsOnce Lines left line → ¬ (StandsOnce Lines right line)
+
+-- part i of the hunk
+abbrev pub part_of : ℕ → DiffHunk → List ℕ
+part_of i hunk = slice_index_or (row_of hunk) i []
+
+-- the byte string has the line
+abbrev pub HasLine : List ℕ → List ℕ → Type 0
+HasLine line text = (k : ℕ) × StandsAt text (token_offsets Lines text) line k
+
+-- part i of some hunk has the line
+abbrev pub PartsHave : ℕ → List ℕ → List DiffHunk → Type 0
+PartsHave i line = Any (λ hunk. HasLine line (part_of i hunk))
+
+-- both parts of a hunk that matches have the line
+abbrev pub LineMatches : List ℕ → List DiffHunk → Type 0
+LineMatches line = Any (λ hunk. (hunk.kind ≡ Matching) × HasLine line (part_of 0 hunk)
+    × HasLine line (part_of 1 hunk))
+
+-- The line is before a hunk that matches in one version, and after it in the other.
+pub record LineCrosses (line : List ℕ) (hunks : List DiffHunk) : Type 0 where
+  pub earlier : List DiffHunk
+  pub between : DiffHunk
+  pub later : List DiffHunk
+  pub split : hunks ≡ earlier ++ between ∷ later
+  pub matching : between.kind ≡ Matching
+  pub crossed : (PartsHave 0 line earlier × PartsHave 1 line later)
+      ⊎ (PartsHave 1 line earlier × PartsHave 0 line later)
+
+-- each hunk that differs has at most 64 lines of each version
+abbrev pub HasSmallChanges : List DiffHunk → Type 0
+HasSmallChanges = All (λ hunk. hunk.kind ≡ Different
+    → HasFewLines (part_of 0 hunk) × HasFewLines (part_of 1 hunk))
+
+-- A line that is exactly once in each version matches, or is before a hunk that matches in one
+-- version and after it in the other, if hunks that differ have at most 64 lines.
+pub record KeepsLines (left right : List ℕ) (hunks : List DiffHunk) : Type 0 where
+  pub each : HasSmallChanges hunks → (line : List ℕ) → StandsOnce Lines left line
+      → StandsOnce Lines right line → LineMatches line hunks ⊎ LineCrosses line hunks

@@ -1,6 +1,6 @@
-//! Callers of `jj_diff` that look at hunks that differ.
+//! Callers of `jj_diff` that look at hunks that differ, and at lines that both versions have.
 ghost use Rattle.std.specs.Prelude.{All, IfOk};
-ghost use Rattle.contracts_diffs.specs.Lines.{EndsApart, SharesNoLine, StartsApart};
+ghost use Rattle.contracts_diffs.specs.Lines.{EndsApart, KeepsLines, SharesNoLine, StartsApart};
 
 use jj_diff::diff::{DiffHunk, diff_by_line};
 use std::alloc::{AllocError, Global};
@@ -20,4 +20,19 @@ pub fn compare_closely<'a>(
 {
     let hunks = diff_by_line(alloc, &[left, right], 0)?;
     Ok(hunks)
+}
+
+/// Compares two versions of a file. A line that is exactly once in each version matches, or it
+/// crosses a hunk that matches: it is before that hunk in one version and after it in the other.
+/// This holds if each hunk that differs has at most 64 lines of each version.
+#[tactic(auto, using(crate::proofs::Shared::shared_steps))]
+pub fn compare_shared_lines<'a>(
+    alloc: Global,
+    left: &'a [u8],
+    right: &'a [u8],
+) -> Result<Vec<DiffHunk<'a>>, AllocError>
+    ensures { IfOk result (λ hunks. KeepsLines left.now right.now hunks.items) }
+{
+    let compared = diff_by_line(alloc, &[left, right], 0)?;
+    Ok(compared)
 }

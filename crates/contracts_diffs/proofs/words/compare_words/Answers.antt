@@ -1,4 +1,4 @@
-use Rattle.std.proofs.Common.{[], ◌∷◌, lit<}
+use Rattle.std.proofs.Common.{lit<}
 use Rattle.jj_diff.specs.Inputs.{bytes_of}
 use Rattle.contracts_diffs.proofs.Refined.{words_of, kept_of, trimmed_of, refined_start, refined_end}
 use Rattle.contracts_diffs.proofs.words.compare_words.Goals as goal
