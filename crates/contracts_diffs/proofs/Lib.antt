@@ -1,4 +1,5 @@
 pub mod Ends
+pub mod Lines
 pub mod Ranges
 pub mod Refined
 pub mod Shared

@@ -1,10 +1,12 @@
 -- Whole lines of byte strings, and hunks of two versions.
--- Cited by contracts of public items: EndsInLine, StartsApart, EndsApart, SharesNoLine, KeepsLines.
-use Rattle.std.specs.Prelude.{◌≡◌, ◌⊎◌, ℕ, ◌-◌, ◌≤◌, ◌++◌, List, [], ◌∷◌, length, filter, All, Any, slice_index}
+-- Cited by contracts of public items: EndsInLine, StartsApart, EndsApart, SharesNoLine, KeepsLines,
+-- HasEqualParts, HasBytes, AreWholeLines.
+use Rattle.std.specs.Prelude.{◌≡◌, ◌⊎◌, ℕ, ◌-◌, ◌<◌, ◌≤◌, ◌++◌, List, [], ◌∷◌, length, map, filter, All, Any, slice_index}
 use Rattle.std.specs.List.{range_with_len, slice_index_or}
 use Rattle.jj_diff.specs.declared.diff.hunks.DiffHunk.{DiffHunk}
 use Rattle.jj_diff.specs.declared.diff.hunks.DiffHunkKind.TheVariants.{Matching, Different}
 use Rattle.jj_diff.specs.declared.diff.tokens.Tokenizer.TheVariants.{Lines}
+use Rattle.jj_diff.specs.Inputs.{side}
 use Rattle.jj_diff.specs.Tokens.{is_line_end}
 use Rattle.jj_diff.specs.Anchors.{StandsAt, StandsOnce, token_offsets}
 use Rattle.jj_diff.specs.Hunks.{row_of}
@@ -37,6 +39,26 @@ SharesNoLine hunk = hunk.kind ≡ Different → (left right line : List ℕ)
 -- part i of the hunk
 abbrev pub part_of : ℕ → DiffHunk → List ℕ
 part_of i hunk = slice_index_or (row_of hunk) i []
+
+-- if the hunk matches, its two parts have one canonical form
+abbrev pub HasEqualParts : (List ℕ → List ℕ) → DiffHunk → Type 0
+HasEqualParts form hunk = hunk.kind ≡ Matching → form (part_of 0 hunk) ≡ form (part_of 1 hunk)
+
+-- not both parts are empty
+abbrev pub HasBytes : DiffHunk → Type 0
+HasBytes hunk = (0 < length (part_of 0 hunk)) ⊎ (0 < length (part_of 1 hunk))
+
+-- part i of the earlier hunks ends with a line, or is the whole version
+abbrev pub EndInLine : ℕ → List ℕ → List DiffHunk → Type 0
+EndInLine i version earlier = EndsInLine (side i (map row_of earlier))
+    ⊎ (side i (map row_of earlier) ≡ version)
+
+-- each hunk ends with a line, or with the version
+pub record AreWholeLines (left right : List ℕ) (hunks : List DiffHunk) : Type 0 where
+  pub left_lines : (earlier later : List DiffHunk) → hunks ≡ earlier ++ later
+      → EndInLine 0 left earlier
+  pub right_lines : (earlier later : List DiffHunk) → hunks ≡ earlier ++ later
+      → EndInLine 1 right earlier
 
 -- the byte string has the line
 abbrev pub HasLine : List ℕ → List ℕ → Type 0

@@ -5,4 +5,5 @@
 
 pub mod changes;
 pub mod files;
+pub mod hunks;
 pub mod words;
