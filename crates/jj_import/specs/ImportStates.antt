@@ -163,6 +163,10 @@ with_commit state mark ref_name git_id id = record {
   };
 }
 
+-- the state in which the ref names the commit
+abbrev pub with_ref : ImportState → List ℕ → List ℕ → ImportState
+with_ref state ref_name id = with_commit state None ref_name None id
+
 -- the state in which the mark names the file too
 abbrev pub with_blob : ImportState → Option ℕ → List ℕ → ImportState
 with_blob state mark id = record {

@@ -5,7 +5,7 @@ use Rattle.std.specs.Option.{option_map}
 use Rattle.jj_backend.specs.Objects.{Objects}
 use Rattle.jj_fast_import.specs.Values.{CommandValue, Blobs, Commits, Tags, Resets, Features, Options, Progresses, Checkpoints, Ends, TagValue}
 use Rattle.jj_import.specs.Imported.{imported_string}
-use Rattle.jj_import.specs.ImportStates.{ImportState, IsBlob, IsReference, IsStoredCommit, with_blob, with_commit, without_ref}
+use Rattle.jj_import.specs.ImportStates.{ImportState, IsBlob, IsReference, IsStoredCommit, with_blob, with_commit, with_ref, without_ref}
 
 -- no earlier command has the mark, if there is one
 abbrev pub IsNewMark : ImportState → Option ℕ → Type 0
@@ -31,7 +31,7 @@ module _ (objects : Objects) (root : List ℕ) where
       new ≡ without_ref old (imported_string ref_name)
   IsCommandImported (Resets ref_name (Some from)) old new = (id : List ℕ)
       × IsReference old from id
-      × (new ≡ with_commit old None (imported_string ref_name) None id)
+      × (new ≡ with_ref old (imported_string ref_name) id)
   IsCommandImported (Features feature) old new = (feature ≡ codes "done") × (new ≡ old)
   IsCommandImported (Options option) old new = new ≡ old
   IsCommandImported (Progresses progress) old new = new ≡ old

@@ -3,3 +3,4 @@ pub mod Stored
 pub mod AppliedChanges
 pub mod ImportStates
 pub mod ImportedCommands
+pub mod RefNames

@@ -5,8 +5,9 @@ ghost use Rattle.jj_backend.specs.Objects.{Objects};
 ghost use Rattle.jj_fast_import.specs.Values.{Blobs, Commits, Resets, Tags, blob_value, bytes_of, command_value, commit_value, reference_value, tag_value};
 ghost use Rattle.jj_import.specs.AppliedChanges.{table_of};
 ghost use Rattle.jj_import.specs.Imported.{imported_string};
-ghost use Rattle.jj_import.specs.ImportStates.{IsSame, IsStoredCommit, known_commit as commit_known, names_of, state_of, with_commit};
+ghost use Rattle.jj_import.specs.ImportStates.{IsSame, IsStoredCommit, known_commit as commit_known, names_of, state_of, with_commit, with_ref};
 ghost use Rattle.jj_import.specs.ImportedCommands.{IsCommandImported, IsNewMark};
+ghost use Rattle.jj_import.specs.RefNames.{IsRefName};
 ghost use Rattle.jj_import.specs.Stored.{IsExtended};
 
 use crate::changes::write_contents;
@@ -341,17 +342,31 @@ impl Importer {
         let added = id.clone()?;
         push_new_id(&mut self.new_ids, &self.names.git_ids, &git_id)?;
         let is_new = add_id(&mut self.names.git_ids, git_id, added)?;
-        if let Err(error) = self.set_ref(ref_name, id) {
+        if let Err(error) = self.set_owned_ref(ref_name, id) {
             remove_id(&mut self.names.git_ids, restored, is_new);
             return Err(error);
         }
         Ok(())
     }
 
+    /// Sets a ref, as `reset` with `from` does; `write_names` records it. Whether a commit with
+    /// the id is stored is not checked.
+    pub fn set_ref(&mut self, name: &str, id: &CommitId) -> Result<(), AllocError>
+        // Names are lines of a record.
+        requires line { IsRefName name.now }
+        // The ref names the commit, in the stream too; no other ref, mark or id of Git changes.
+        ensures named { OnOk result (state_of self.new
+            ≡ with_ref (state_of self.old) name.now id.now) }
+        ensures unchanged { OnErr result (state_of self.new ≡ state_of self.old) }
+    {
+        let name = String::from_str(*self.new_ids.allocator(), name)?;
+        self.set_owned_ref(name, id.clone()?)
+    }
+
     // Sets a ref of the stream, and of the names.
-    fn set_ref(&mut self, name: String, id: CommitId) -> Result<(), AllocError>
-        ensures named { OnOk result (IsSame (with_commit (state_of self.old) None
-            (string_bytes name) None id) (state_of self.new)) }
+    fn set_owned_ref(&mut self, name: String, id: CommitId) -> Result<(), AllocError>
+        ensures named { OnOk result (IsSame (with_ref (state_of self.old)
+            (string_bytes name) id) (state_of self.new)) }
         ensures unchanged { OnErr result (IsSame (state_of self.old) (state_of self.new)) }
     {
         let key = name.clone()?;
@@ -417,7 +432,7 @@ impl Importer {
     {
         let id = self.commit_of(alloc, "from", from)?;
         let name = text_of(alloc, ref_name)?;
-        self.set_ref(name, id)?;
+        self.set_owned_ref(name, id)?;
         Ok(())
     }
 

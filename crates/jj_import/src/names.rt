@@ -1,6 +1,7 @@
 //! The names of commits, stored in the backend as commits of their own: records of names.
-ghost use Rattle.std.specs.Prelude.{◌≡◌, ℕ, List, None};
+ghost use Rattle.std.specs.Prelude.{◌≡◌, ◌↔◌, ℕ, IsTrue, List, None};
 ghost use Rattle.jj_import.specs.ImportStates.{names_of};
+ghost use Rattle.jj_import.specs.RefNames.{IsRefName};
 
 use jj_backend::backend::{Backend, BackendError, Commit, CommitId, FileId, TreeId, TreeValue};
 use jj_ids::object_id::ObjectId;
@@ -75,6 +76,13 @@ pub struct Names {
     pub(crate) record: Option<CommitId>,
     // The file `refs` of the record.
     pub(crate) recorded_refs: Vec<u8>,
+}
+
+/// Returns whether a record can have a ref of this name: whether it has no line feed.
+pub fn is_ref_name(name: &str) -> bool
+    ensures { IsTrue result ↔ IsRefName name.now }
+{
+    name.as_bytes().iter().all(|byte| *byte != b'\n')
 }
 
 /// Returns whether a commit is a record of names.
