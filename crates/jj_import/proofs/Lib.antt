@@ -4,3 +4,4 @@ pub mod AppliedLater
 pub mod NamedCommits
 pub mod States
 pub mod AppliedSteps
+pub mod ImportedRuns

@@ -1,6 +1,7 @@
 -- The commands of a stream, by what they make of the state of an import.
--- Cited by contracts of public items: IsCommandImported.
-use Rattle.std.specs.Prelude.{◌≡◌, ◌⊎◌, ℕ, List, ◌++◌, codes, Option, Some, None}
+-- Cited by contracts of public items: AreCommandsImported, IsCommandImported, IsWithinLimit,
+-- commits_in.
+use Rattle.std.specs.Prelude.{◌≡◌, ◌≤◌, ◌+◌, ◌⊎◌, ℕ, Bool, true, false, List, [], ◌∷◌, ◌++◌, codes, Option, Some, None, Result, Ok, Err}
 use Rattle.std.specs.Option.{option_map}
 use Rattle.jj_backend.specs.Objects.{Objects}
 use Rattle.jj_fast_import.specs.Values.{CommandValue, Blobs, Commits, Tags, Resets, Features, Options, Progresses, Checkpoints, Ends, TagValue}
@@ -38,7 +39,24 @@ module _ (objects : Objects) (root : List ℕ) where
   IsCommandImported Checkpoints old new = new ≡ old
   IsCommandImported Ends old new = new ≡ old
 
+  -- the commands, one after the other, make the later state of the earlier one
+  abbrev pub AreCommandsImported : List CommandValue → ImportState → ImportState → Type 0
+  AreCommandsImported [] old new = new ≡ old
+  AreCommandsImported (command ∷ commands) old new = (between : ImportState)
+      × IsCommandImported command old between × AreCommandsImported commands between new
+
 -- how many commits the command makes
 abbrev pub count_of : CommandValue → ℕ
 count_of (Commits commit) = 1
 count_of command = 0
+
+-- the number of commits among the commands
+abbrev pub commits_in : List CommandValue → ℕ
+commits_in [] = 0
+commits_in (command ∷ commands) = count_of command + commits_in commands
+
+-- the commits are as many as the limit, or fewer, if the stream ended or failed
+abbrev pub IsWithinLimit : {E : Type 0} → ℕ → ℕ → Result Bool E → Type 0
+IsWithinLimit limit commits (Ok false) = commits ≡ limit
+IsWithinLimit limit commits (Ok true) = commits ≤ limit
+IsWithinLimit limit commits (Err error) = commits ≤ limit

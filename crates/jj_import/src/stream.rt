@@ -1,10 +1,10 @@
 //! Import of the commands of a reader, as many commits at a time as are asked for.
-ghost use Rattle.std.specs.Prelude.{◌≡◌, ◌+◌, ◌<◌, IfOk, OnErr};
+ghost use Rattle.std.specs.Prelude.{◌≡◌, ◌+◌, ◌<◌, List, IfOk, OnErr};
 ghost use Rattle.std.specs.Option.{MatchOption};
 ghost use Rattle.jj_backend.specs.Objects.{Objects};
-ghost use Rattle.jj_fast_import.specs.Values.{command_value};
+ghost use Rattle.jj_fast_import.specs.Values.{CommandValue, command_value};
 ghost use Rattle.jj_import.specs.ImportStates.{state_of};
-ghost use Rattle.jj_import.specs.ImportedCommands.{IsCommandImported, count_of};
+ghost use Rattle.jj_import.specs.ImportedCommands.{AreCommandsImported, IsCommandImported, IsWithinLimit, commits_in, count_of};
 ghost use Rattle.jj_import.specs.Stored.{IsExtended};
 
 use crate::error::ImportError;
@@ -78,7 +78,18 @@ pub fn import_commands<R: Source, B: Backend>(
     backend: &mut B,
     reader: &mut CommandReader<R>,
     limit: usize,
-) -> Result<bool, StreamError> {
+) -> Result<bool, StreamError>
+    // At the end, at the limit and at an error, commands have made the later state of the earlier
+    // one, in order: as many commits as the limit, or fewer if the stream ended or failed.
+    ensures imported { (commands : List CommandValue)
+        × IsWithinLimit limit (commits_in commands) result
+        × ((objects : Objects) → IsExtended (B.objects backend.new) objects
+        → AreCommandsImported objects (B.fixed backend.old).root_commit_id commands
+        (state_of importer.old) (state_of importer.new)) }
+    // The backend has each object that it had.
+    ensures objects { IsExtended (B.objects backend.old) (B.objects backend.new) }
+    ensures fixed { B.fixed backend.new ≡ B.fixed backend.old }
+{
     importer.set_within_stream(false);
     let mut left = limit;
     for _ in 0..u64::MAX {
