@@ -3,7 +3,7 @@ mod Parsed
 mod OneError
 mod Trees
 mod Unique
-mod Selecting
+pub mod Selecting
 mod Strings
 mod Evaluated
 mod Lexed

@@ -6,12 +6,14 @@ use Rattle.std.proofs.lemmas.List.Elements.{Contains-append_cases, Contains-appe
 use Rattle.jj_filesets.specs.Selection.{IsSelected, none, takes, leaves}
 
 module _ {X : Type 0} (InSet : X → Type 0) where
-  takes_last : (x : X) (all some : List X) → InSet x → IsSelected InSet all some → IsSelected InSet (all ++ x ∷ []) (some ++ x ∷ [])
+  -- one more element that is in the set
+  pub takes_last : (x : X) (all some : List X) → InSet x → IsSelected InSet all some → IsSelected InSet (all ++ x ∷ []) (some ++ x ∷ [])
   takes_last x all some inside none = takes inside none
   takes_last x all some inside (takes first rest) = takes first (takes_last x _ _ inside rest)
   takes_last x all some inside (leaves first rest) = leaves first (takes_last x _ _ inside rest)
 
-  leaves_last : (x : X) (all some : List X) → (¬ InSet x) → IsSelected InSet all some → IsSelected InSet (all ++ x ∷ []) some
+  -- one more element that is not
+  pub leaves_last : (x : X) (all some : List X) → (¬ InSet x) → IsSelected InSet all some → IsSelected InSet (all ++ x ∷ []) some
   leaves_last x all some outside none = leaves outside none
   leaves_last x all some outside (takes first rest) = takes first (leaves_last x _ _ outside rest)
   leaves_last x all some outside (leaves first rest) = leaves first (leaves_last x _ _ outside rest)
