@@ -7,3 +7,4 @@ pub mod PatchText
 pub mod Applying
 pub mod Views
 pub mod Words
+pub mod GitDiffs

@@ -1,6 +1,7 @@
 //! Unified diffs: hunks of changed lines with context around them.
 
 mod application;
+mod git_diff;
 mod header;
 mod hunks;
 mod names;
@@ -11,6 +12,7 @@ mod word_hunks;
 mod words;
 
 pub use application::{ApplyError, apply};
+pub use git_diff::{FileMode, FileVersion, push_git_diff};
 pub use hunks::{UnifiedDiffHunk, group_diff_lines, unified_diff_hunks};
 pub use patch::{ExpectedInPatch, PatchFault};
 pub use render::write_unified_diff;

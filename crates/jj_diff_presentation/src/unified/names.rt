@@ -65,7 +65,8 @@ fn has_space(path: &[u8]) -> bool
     path.iter().any(|byte| *byte == b' ')
 }
 
-fn push_side_name(text: &mut Vec<u8>, side: &[u8], path: &[u8]) -> Result<(), AllocError>
+// Appends the name of a file after `side`, in quotes if it needs them.
+pub(super) fn push_side_name(text: &mut Vec<u8>, side: &[u8], path: &[u8]) -> Result<(), AllocError>
     ensures { OnOk result (text.new.items ≡ text.old.items ++ side_name side.now path.now) }
 {
     if !are_plain(path) {

@@ -76,7 +76,7 @@ pub(super) fn push_header(text: &mut Vec<u8>, hunk: &UnifiedDiffHunk) -> Result<
 }
 
 #[tactic(auto, using(crate::proofs::PatchText::hunks_steps))]
-fn push_hunks(text: &mut Vec<u8>, hunks: &[UnifiedDiffHunk]) -> Result<(), AllocError>
+pub(super) fn push_hunks(text: &mut Vec<u8>, hunks: &[UnifiedDiffHunk]) -> Result<(), AllocError>
     requires { All HasRanges hunks.now }
     ensures { OnOk result (text.new.items ≡ text.old.items ++ hunks_text hunks.now) }
 {
