@@ -1,12 +1,11 @@
-//! The log of some commits and their ancestors as a graph.
+//! The log of some commits as a graph.
 use crate::error::{DrawingError, drawing_error};
 use crate::names::CommitNames;
-use jj_backend::backend::Backend;
 use jj_ids::object_id::{CommitId, ObjectId};
 use jj_log::commits::Commit;
 use jj_log::log::draw_log;
 use std::alloc::{AllocError, Global};
-use store_walks::{ReadCommit, history_order};
+use store_walks::ReadCommit;
 
 fn first_line(text: &str) -> &str {
     match text.split_once('\n') {
@@ -48,17 +47,24 @@ fn hex_ids(alloc: Global, ids: &[CommitId]) -> Result<Vec<String>, AllocError> {
     Ok(names)
 }
 
-// Returns a commit of the log by the digits of its id and of those of its parents.
+// Returns a commit of the log by the digits of its id and of those of its parents, without a label
+// if it is not shown.
 fn entry_of(
     alloc: Global,
     names: &CommitNames,
     root: &CommitId,
     read: &ReadCommit,
+    is_shown: bool,
 ) -> Result<Commit, AllocError> {
+    let label = if is_shown {
+        Some(label_of(alloc, names, root, read)?)
+    } else {
+        None
+    };
     Ok(Commit {
         name: read.id.hex(alloc)?,
         parents: hex_ids(alloc, &read.commit.parents)?,
-        label: Some(label_of(alloc, names, root, read)?),
+        label,
     })
 }
 
@@ -67,27 +73,29 @@ fn entries_of(
     names: &CommitNames,
     root: &CommitId,
     order: &[ReadCommit],
+    shown: &[bool],
 ) -> Result<Vec<Commit>, AllocError> {
     let mut entries = Vec::new(alloc);
-    for read in order {
-        entries.push(entry_of(alloc, names, root, read)?)?;
+    for (read, is_shown) in order.iter().zip(shown) {
+        entries.push(entry_of(alloc, names, root, read, *is_shown)?)?;
     }
     Ok(entries)
 }
 
-/// Draws some commits and their ancestors as a graph, children first, in at most so many columns. A
-/// commit has its short name, its refs, and the first line of its description. Fails with `Store`
-/// of the error of a failed read, with `Cycle` if the history has one, with `TooWide` if a row
-/// needs more columns, and with `Memory` if memory runs out.
-pub fn draw_history<B: Backend>(
+/// Draws the commits of a list that are shown as a graph, children first, in at most so many
+/// columns. A commit has its short name, its refs, and the first line of its description. `shown`
+/// says of each commit whether it is; descendants of one that is not have edges to its nearest
+/// ancestors that are. Fails with `Cycle` if the history has one, with `TooWide` if a row needs
+/// more columns, and with `Memory` if memory runs out.
+pub fn draw_order(
     alloc: Global,
-    store: &B,
     names: &CommitNames,
-    starts: &[CommitId],
+    root: &CommitId,
+    order: &[ReadCommit],
+    shown: &[bool],
     columns: usize,
 ) -> Result<String, DrawingError> {
-    let order = history_order(alloc, store, starts)?;
-    let entries = entries_of(alloc, names, store.root_commit_id(), &order)?;
+    let entries = entries_of(alloc, names, root, order, shown)?;
     match draw_log(alloc, &entries, columns) {
         Ok(drawing) => Ok(drawing),
         Err(error) => Err(drawing_error(error, columns)),

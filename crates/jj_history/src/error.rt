@@ -1,9 +1,7 @@
 //! Errors of questions about a history.
 use jj_backend::backend::BackendError;
-use jj_dag::walk_error::WalkError;
 use jj_log::fault::LogError;
 use std::alloc::{AllocError, AllocFailed};
-use store_walks::HistoryError;
 use thiserror::Error;
 
 /// Why a revision names no commit. `quoted` is the revision, in double quotes and escaped.
@@ -81,8 +79,6 @@ impl From<BackendError> for ContentError {
 pub enum DrawingError {
     #[error("out of memory")]
     Memory,
-    #[error("{0}")]
-    Store(BackendError),
     #[error("the history has a cycle")]
     Cycle,
     /// A row of the log needs more columns than are allowed.
@@ -93,22 +89,6 @@ pub enum DrawingError {
 impl From<AllocError> for DrawingError {
     fn from(_error: AllocError) -> Self {
         DrawingError::Memory
-    }
-}
-
-impl<T: Drop> From<AllocFailed<T>> for DrawingError {
-    fn from(_error: AllocFailed<T>) -> Self {
-        DrawingError::Memory
-    }
-}
-
-impl From<WalkError<HistoryError>> for DrawingError {
-    fn from(error: WalkError<HistoryError>) -> Self {
-        match error {
-            WalkError::Node(HistoryError::Read(error)) => DrawingError::Store(error),
-            WalkError::Node(HistoryError::Cycle(_)) => DrawingError::Cycle,
-            WalkError::Memory => DrawingError::Memory,
-        }
     }
 }
 

@@ -7,7 +7,6 @@ pub mod contents;
 pub mod describing;
 pub mod drawing;
 pub mod error;
-pub mod listing;
 pub mod names;
 pub mod quoting;
 pub mod revisions;
