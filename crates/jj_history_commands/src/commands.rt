@@ -1,12 +1,15 @@
 //! The commands that read a history.
 use crate::arguments::Command;
+use crate::changes::compare_commits;
+use crate::checks::{ObjectCounts, check_history};
 use crate::contents::{list_files, read_file};
 use crate::error::CommandError;
+use crate::filesets::parse_files;
+use crate::logs::draw_commits;
 use crate::revisions::{commit_of, commits_of, values};
 use jj_backend::backend::Backend;
 use jj_history::ancestry::{bases, heads};
 use jj_history::describing::describe_commit;
-use jj_history::drawing::draw_history;
 use jj_history::names::CommitNames;
 use jj_ids::object_id::CommitId;
 use std::alloc::{AllocError, Global};
@@ -41,19 +44,21 @@ fn starts_of<B: Backend>(
     Ok(starts)
 }
 
-/// Draws the commits of revisions, or of all refs, and their ancestors. Fails with `Empty` if there
-/// are neither, with `Drawing` as `draw_history` does, and as `commit_of` does.
+/// Draws the commits of revisions, or of all refs, and their ancestors; with a file set those of
+/// them that change such files. Fails with `Empty` if there are neither, and as `commit_of`,
+/// `parse_files` and `draw_commits` do.
 pub fn draw_log<B: Backend>(
     alloc: Global,
     store: &B,
     refs: &BTreeMap<String, CommitId>,
     git_ids: &BTreeMap<String, CommitId>,
     revisions: &[String],
+    files: Option<&String>,
 ) -> Result<String, CommandError> {
+    let files = parse_files(alloc, files)?;
     let starts = starts_of(alloc, store, refs, git_ids, revisions)?;
     let names = CommitNames::new(alloc, refs, git_ids)?;
-    let drawing = draw_history(alloc, store, &names, &starts, COLUMNS)?;
-    Ok(drawing)
+    draw_commits(alloc, store, &names, &starts, files.as_ref(), COLUMNS)
 }
 
 // Returns a line with a commit and its refs.
@@ -175,6 +180,29 @@ pub fn show_commit<B: Backend>(
     Ok(output)
 }
 
+/// Reads all objects that the refs and the commits of Git's ids reach, as `check_history` does.
+pub fn check_all<B: Backend>(
+    alloc: Global,
+    store: &B,
+    refs: &BTreeMap<String, CommitId>,
+    git_ids: &BTreeMap<String, CommitId>,
+) -> Result<String, CommandError> {
+    let mut starts = values(alloc, refs)?;
+    for id in git_ids.values() {
+        starts.push(id.clone()?)?;
+    }
+    let counts = check_history(alloc, store, &starts)?;
+    let line = count_line(alloc, &counts)?;
+    Ok(line)
+}
+
+fn count_line(alloc: Global, counts: &ObjectCounts) -> Result<String, AllocError> {
+    let commits = counts.commits;
+    let trees = counts.trees;
+    let files = counts.files;
+    format!(in alloc; "{commits} commits, {trees} trees and {files} files are there\n")
+}
+
 // Returns the output of a command that prints lines.
 fn printed<B: Backend>(
     alloc: Global,
@@ -184,7 +212,9 @@ fn printed<B: Backend>(
     command: &Command,
 ) -> Result<String, CommandError> {
     match command {
-        Command::Log(revisions) => draw_log(alloc, store, refs, git_ids, revisions),
+        Command::Log { revisions, files } => {
+            draw_log(alloc, store, refs, git_ids, revisions, files.as_ref())
+        }
         Command::Heads => list_heads(alloc, store, refs, git_ids),
         Command::Refs => match list_refs(alloc, refs, git_ids) {
             Ok(output) => Ok(output),
@@ -194,13 +224,17 @@ fn printed<B: Backend>(
             list_bases(alloc, store, refs, git_ids, first.as_str(), others)
         }
         Command::Show(revision) => show_commit(alloc, store, refs, git_ids, revision.as_str()),
-        Command::Files(revision) => list_files(alloc, store, refs, git_ids, revision.as_str()),
-        Command::Import | Command::Cat { .. } => Ok(String::new(alloc)),
+        Command::Files { revision, files } => {
+            let files = files.as_ref();
+            list_files(alloc, store, refs, git_ids, revision.as_str(), files)
+        }
+        Command::Check => check_all(alloc, store, refs, git_ids),
+        _ => Ok(String::new(alloc)),
     }
 }
 
-/// Returns the output of a command, which is empty for `Import`. Fails as the function of the
-/// command does.
+/// Returns the output of a command that reads; that of `Import` and `Merge`, which write, is empty.
+/// Fails as the function of the command does.
 pub fn output_of<B: Backend>(
     alloc: Global,
     store: &B,
@@ -208,18 +242,29 @@ pub fn output_of<B: Backend>(
     git_ids: &BTreeMap<String, CommitId>,
     command: &Command,
 ) -> Result<Vec<u8>, CommandError> {
-    if let Command::Cat { revision, path } = command {
-        return read_file(
+    match command {
+        Command::Cat { revision, path } => {
+            let revision = revision.as_str();
+            read_file(alloc, store, refs, git_ids, revision, path.as_str())
+        }
+        Command::Diff {
+            before,
+            after,
+            files,
+            form,
+        } => compare_commits(
             alloc,
             store,
             refs,
             git_ids,
-            revision.as_str(),
-            path.as_str(),
-        );
-    }
-    match printed(alloc, store, refs, git_ids, command) {
-        Ok(output) => Ok(output.into_bytes()),
-        Err(error) => Err(error),
+            before.as_str(),
+            after.as_str(),
+            files.as_ref(),
+            *form,
+        ),
+        command => match printed(alloc, store, refs, git_ids, command) {
+            Ok(output) => Ok(output.into_bytes()),
+            Err(error) => Err(error),
+        },
     }
 }

@@ -1,6 +1,7 @@
 //! Errors of commands.
 use jj_backend::backend::BackendError;
 use jj_dag::walk_error::WalkError;
+use jj_filesets::fileset::FilesetParseError;
 use jj_history::error::{ContentError, DrawingError, RevisionError};
 use std::alloc::{AllocError, AllocFailed};
 use store_walks::HistoryError;
@@ -22,9 +23,19 @@ pub enum CommandError {
     Cycle,
     /// The contents of a commit, or of a path of it, cannot be returned.
     #[error("{quoted}: {error}")]
-    Content { quoted: String, error: ContentError },
+    Content {
+        quoted: String,
+        error: ContentError,
+    },
     #[error("{quoted}: no path; expected names separated by `/`")]
-    Path { quoted: String },
+    Path {
+        quoted: String,
+    },
+    #[error("{quoted}: {error}")]
+    Fileset {
+        quoted: String,
+        error: FilesetParseError,
+    },
     /// There are no refs.
     #[error("the database has no commits; `import` reads some")]
     Empty,

@@ -2,8 +2,12 @@
 #![tactic(auto)]
 
 pub mod arguments;
+pub mod changes;
+pub mod checks;
 pub mod commands;
 pub mod contents;
 pub mod error;
+pub mod filesets;
+pub mod logs;
 pub mod revisions;
 pub mod usage;

@@ -1,4 +1,7 @@
 //! The commits that operands name.
+ghost use Rattle.std.specs.Prelude.{◌≡◌, IfOk, IfSome};
+ghost use Rattle.std.specs.BTreeMap.{values};
+ghost use Rattle.jj_history_commands.specs.Operands.{AreLookedUp, IsCommitOf, IsWholeId};
 
 use crate::error::CommandError;
 use jj_backend::backend::Backend;
@@ -10,15 +13,14 @@ use std::collections::BTreeMap;
 use store_walks::history_ids;
 
 /// Returns the commits of a map, in the order of their names.
-pub fn values(
-    alloc: Global,
-    ids: &BTreeMap<String, CommitId>,
-) -> Result<Vec<CommitId>, AllocError> {
-    let mut values = Vec::new(alloc);
+pub fn values(alloc: Global, ids: &BTreeMap<String, CommitId>) -> Result<Vec<CommitId>, AllocError>
+    ensures { IfOk result (λ commits. commits.items ≡ values ids.now) }
+{
+    let mut commits = Vec::new(alloc);
     for id in ids.values() {
-        values.push(id.clone()?)?;
+        commits.push(id.clone()?)?;
     }
-    Ok(values)
+    Ok(commits)
 }
 
 // Returns the ids among which prefixes are looked up: those of the commits that Git has ids for,
@@ -28,7 +30,10 @@ fn known_ids<B: Backend>(
     store: &B,
     refs: &BTreeMap<String, CommitId>,
     git_ids: &BTreeMap<String, CommitId>,
-) -> Result<Vec<CommitId>, CommandError> {
+) -> Result<Vec<CommitId>, CommandError>
+    ensures { IfOk result (λ ids.
+        AreLookedUp (B.objects store.now) refs.now git_ids.now ids.items) }
+{
     if git_ids.is_empty() {
         let starts = values(alloc, refs)?;
         let ids = history_ids(alloc, store, &starts)?;
@@ -43,7 +48,10 @@ fn whole_id<B: Backend>(
     alloc: Global,
     store: &B,
     revision: &str,
-) -> Result<Option<CommitId>, AllocError> {
+) -> Result<Option<CommitId>, AllocError>
+    ensures { IfOk result (λ found. IfSome found
+        (IsWholeId (B.objects store.now) revision.now)) }
+{
     let Some(id) = CommitId::try_from_hex(alloc, revision)? else {
         return Ok(None);
     };
@@ -62,7 +70,9 @@ fn or_whole_id<B: Backend>(
     store: &B,
     revision: &str,
     quoted: String,
-) -> Result<CommitId, CommandError> {
+) -> Result<CommitId, CommandError>
+    ensures { IfOk result (IsWholeId (B.objects store.now) revision.now) }
+{
     match whole_id(alloc, store, revision) {
         Ok(Some(id)) => Ok(id),
         Ok(None) => Err(CommandError::Revision(RevisionError::Unknown { quoted })),
@@ -80,7 +90,11 @@ pub fn commit_of<B: Backend>(
     refs: &BTreeMap<String, CommitId>,
     git_ids: &BTreeMap<String, CommitId>,
     revision: &str,
-) -> Result<CommitId, CommandError> {
+) -> Result<CommitId, CommandError>
+    // The commit is that of the ref, or the only one with this prefix, or else that with this id.
+    ensures commit { IfOk result
+        (IsCommitOf (B.objects store.now) refs.now git_ids.now revision.now) }
+{
     let ids = known_ids(alloc, store, refs, git_ids)?;
     match resolve(alloc, refs, git_ids, &ids, revision) {
         Ok(id) => Ok(id),
