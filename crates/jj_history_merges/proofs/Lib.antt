@@ -1,0 +1,2 @@
+mod Yielded
+mod WrittenCommits
