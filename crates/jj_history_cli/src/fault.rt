@@ -1,5 +1,6 @@
 //! Errors of the program.
 use jj_history_commands::error::CommandError;
+use jj_history_merges::error::MergeError;
 use jj_import::error::ImportError;
 use jj_import::names::NamesError;
 use jj_import::stream::StreamError;
@@ -20,6 +21,8 @@ pub(crate) enum Fault {
     Import(ImportError),
     #[error("{0}")]
     Command(CommandError),
+    #[error("{0}")]
+    Merge(MergeError),
 }
 
 impl From<OpenError> for Fault {

@@ -16,7 +16,8 @@ use sqlite::{Alter, FileStore};
 use sqlite_disk::Disk;
 use std::alloc::Global;
 
-fn begin<S: Alter + Drop>(
+// Begins a transaction.
+pub(crate) fn begin<S: Alter + Drop>(
     store: Mirrored<SqliteLog<S>>,
 ) -> Result<Mirrored<SqliteBatch<S>>, OpenError> {
     let (backend, log) = store.into_parts();
@@ -29,7 +30,8 @@ fn begin<S: Alter + Drop>(
     }
 }
 
-fn commit<S: Alter + Drop>(
+// Commits a transaction.
+pub(crate) fn commit<S: Alter + Drop>(
     written: Mirrored<SqliteBatch<S>>,
 ) -> Result<Mirrored<SqliteLog<S>>, OpenError> {
     let (backend, batch) = written.into_parts();

@@ -5,6 +5,7 @@ mod batches;
 mod database;
 mod fault;
 mod importing;
+mod merging;
 mod session;
 
 use crate::fault::Fault;

@@ -2,6 +2,7 @@
 use crate::database::{close, with_last_commit};
 use crate::fault::Fault;
 use crate::importing::import_stream;
+use crate::merging::merge_in_store;
 use jj_backend::backend::Backend;
 use jj_files::file_util::{Sink, Source};
 use jj_history_commands::arguments::Command;
@@ -44,6 +45,14 @@ fn run_with_names<D: Disk + Drop, R: Source + Drop, E: Sink>(
     if matches!(command, Command::Import) {
         import_stream(alloc, store, names, source, errors, on_terminal)?;
         return Ok(Vec::new(alloc));
+    }
+    if let Command::Merge {
+        first,
+        second,
+        style,
+    } = command
+    {
+        return merge_in_store(alloc, store, names, first.as_str(), second.as_str(), *style);
     }
     let output = output_of(alloc, &store, names.refs(), names.git_ids(), command);
     close(store)?;
