@@ -67,26 +67,34 @@ fn is_region<C: CompareBytes>(
     Ok(true)
 }
 
-// Returns what is left of the region between `starts` and `limits`.
+// Returns by how much a number exceeds its counterpart at most.
+fn largest_excess(numbers: &[usize], others: &[usize]) -> usize {
+    let mut excess: usize = 0;
+    for index in 0..numbers.len() {
+        excess = excess.max(numbers[index].saturating_sub(at(others, index)));
+    }
+    excess
+}
+
+// Returns what is left of the region between `starts` and `limits`. It is cut by as many bytes in
+// each input, so that equal parts stay equal.
 fn clip(
     alloc: Global,
     region: &MatchedRegion,
     starts: &[usize],
     limits: &[usize],
 ) -> Result<MatchedRegion, AllocError> {
+    let before = largest_excess(starts, &region.starts);
+    let after = largest_excess(&region.ends, limits);
     let mut clipped = MatchedRegion {
         starts: Vec::with_capacity(alloc, starts.len())?,
         ends: Vec::with_capacity(alloc, limits.len())?,
     };
-    for index in 0..region.starts.len() {
-        clipped
-            .starts
-            .push(at(&region.starts, index).max(at(starts, index)))?;
+    for start in &region.starts {
+        clipped.starts.push(start.saturating_add(before))?;
     }
-    for index in 0..region.ends.len() {
-        clipped
-            .ends
-            .push(at(&region.ends, index).min(at(limits, index)))?;
+    for end in &region.ends {
+        clipped.ends.push(end.saturating_sub(after))?;
     }
     Ok(clipped)
 }
