@@ -199,7 +199,10 @@ fn log_of(alloc: Global, operands: &[String]) -> Result<Command, UsageError> {
     let form = "log [-r REV].. [FILESET]";
     let mut revisions = Vec::new(alloc);
     let mut rest = operands;
-    while let Some((word, after)) = rest.split_first() {
+    for _ in 0..operands.len() {
+        let Some((word, after)) = rest.split_first() else {
+            break;
+        };
         if !matches!(word.as_str(), "-r" | "--revision") {
             break;
         }
