@@ -147,6 +147,7 @@ fn files_operand(
 ) -> Result<Option<String>, UsageError> {
     match operands {
         [] => Ok(None),
+        [word] if is_option(word) => Err(unknown_option(alloc, word)),
         [files] => Ok(Some(files.clone()?)),
         [_, word, ..] => Err(unexpected(alloc, form, word)),
     }
