@@ -12,7 +12,7 @@ TESTS = [it for it in SHOWN if is_test_support(it)]
 USED = {it for name in CRATES if not is_test_support(name) for it in CRATES[name]}
 # The crates whose functions are callers of the libraries: tests, what no library uses, and the
 # walks of a store.
-CALLERS = [it for it in SHOWN if it in TESTS or it not in USED or it == "store_walks"]
+CALLERS = [it for it in SHOWN if it in TESTS or it not in USED or it == "jj_store_walks"]
 GUIDE = sorted((ROOT / "docs/guide").glob("*.md"))
 # A call: the dot before a method or the type before a function, and the name.
 CALL = re.compile(r"(\.\s*)?(?:(\w+)(?:::<[^>()]*>)?::)?\b(\w+)(?:::<[^>]*>)?\(")

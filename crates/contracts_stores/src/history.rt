@@ -1,13 +1,13 @@
-//! Callers of `store_walks`.
+//! Callers of `jj_store_walks`.
 ghost use Rattle.std.specs.Prelude.{IfOk};
 ghost use Rattle.jj_dag.specs.Outcomes.{IfFails};
-ghost use Rattle.store_walks.specs.Histories.{AreFoundAncestors, AreHeadCommits, IsGroupedHistory, IsHistoryError, TakesGreatestHeads};
+ghost use Rattle.jj_store_walks.specs.Histories.{AreFoundAncestors, AreHeadCommits, IsGroupedHistory, IsHistoryError, TakesGreatestHeads};
 
 use jj_backend::backend::{Backend, BackendError, BackendResult, CommitId};
 use jj_dag::walk_error::WalkError;
+use jj_store_walks::{HistoryError, ReadCommit};
 use std::alloc::{AllocError, Global};
 use std::collections::HashSet;
-use store_walks::{HistoryError, ReadCommit};
 
 /// `ancestors`.
 pub fn ancestors<B: Backend>(
@@ -18,7 +18,7 @@ pub fn ancestors<B: Backend>(
     ensures { IfOk result (λ found. AreFoundAncestors (B.objects store.now) (B.may_fail store.now)
         ids.now found.items) }
 {
-    let found = store_walks::ancestors(alloc, store, ids)?;
+    let found = jj_store_walks::ancestors(alloc, store, ids)?;
     Ok(found)
 }
 
@@ -31,7 +31,7 @@ pub fn head_commits<B: Backend>(
     ensures { IfOk result (λ heads.
         AreHeadCommits (B.objects store.now) ids.items heads.keys) }
 {
-    store_walks::head_commits(alloc, store, ids)
+    jj_store_walks::head_commits(alloc, store, ids)
 }
 
 /// `grouped_history`.
@@ -45,7 +45,7 @@ pub fn grouped_history<B: Backend>(
     ensures error { IfFails result (IsHistoryError (B.objects store.now) (B.may_fail store.now)
         ids.now) }
 {
-    store_walks::grouped_history(alloc, store, ids)
+    jj_store_walks::grouped_history(alloc, store, ids)
 }
 
 /// `history_ids`.
@@ -57,6 +57,6 @@ pub fn history_ids<B: Backend>(
     ensures { IfOk result (λ order.
         TakesGreatestHeads (B.objects store.now) order.items) }
 {
-    let order = store_walks::history_ids(alloc, store, ids)?;
+    let order = jj_store_walks::history_ids(alloc, store, ids)?;
     Ok(order)
 }

@@ -1,6 +1,6 @@
 -- Graphs whose lists of neighbors may have failed items: an item is a node or an error.
 -- Cited by contracts of public items through ClosureGraph, Collecting, Expanding,
--- jj_walks.DfsOkSteps, jj_walks.Expansions, store_walks.Histories.
+-- jj_walks.DfsOkSteps, jj_walks.Expansions, jj_store_walks.Histories.
 use Rattle.std.specs.Prelude.{◌≡◌, ℕ, ◌==◌, Bool, true, List, [], ◌∷◌, ◌++◌, map, reverse, Option, Result}
 use Rattle.std.specs.declared.result.Result.TheVariants.{Ok, Err}
 use Rattle.std.specs.Iterator.{Yields}

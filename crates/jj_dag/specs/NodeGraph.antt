@@ -1,6 +1,6 @@
 -- Directed graphs on nodes of any type. The words are those of `Graph`; a contract that speaks of
 -- such a graph needs no numbers for its nodes.
--- Cited by contracts of public items through store_walks.Histories.
+-- Cited by contracts of public items through jj_store_walks.Histories.
 use Rattle.std.specs.Prelude.{◌≡◌, ◌≢◌, ◌↔◌, ℕ, zero, suc, List, ◌∷◌, ◌++◌, AllPairs}
 use Rattle.std.specs.List.{Contains}
 

@@ -1,14 +1,14 @@
 //! Heads and merge bases, as lists.
 ghost use Rattle.std.specs.Prelude.{◌≡◌, ◌++◌, ◌∷◌, [], IfOk};
 ghost use Rattle.jj_dag.specs.Outcomes.{IfFails};
-ghost use Rattle.store_walks.specs.Histories.{AreHeadCommits, AreMergeBases, IsErrorBelow, IsReadErrorBelow};
+ghost use Rattle.jj_store_walks.specs.Histories.{AreHeadCommits, AreMergeBases, IsErrorBelow, IsReadErrorBelow};
 
 use jj_backend::backend::{Backend, BackendError};
 use jj_dag::walk_error::WalkError;
 use jj_ids::object_id::CommitId;
+use jj_store_walks::{ReadCommit, head_commits, merge_bases};
 use std::alloc::{AllocError, Global};
 use std::collections::HashSet;
-use store_walks::{ReadCommit, head_commits, merge_bases};
 
 // Returns the members of a set.
 fn members(alloc: Global, set: &HashSet<CommitId>) -> Result<Vec<CommitId>, AllocError>

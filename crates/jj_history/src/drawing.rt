@@ -4,8 +4,8 @@ use crate::names::CommitNames;
 use jj_ids::object_id::{CommitId, ObjectId};
 use jj_log::commits::Commit;
 use jj_log::log::draw_log;
+use jj_store_walks::ReadCommit;
 use std::alloc::{AllocError, Global};
-use store_walks::ReadCommit;
 
 fn first_line(text: &str) -> &str {
     match text.split_once('\n') {

@@ -6,7 +6,7 @@ use Rattle.jj_backend.specs.Objects.{Objects}
 use Rattle.jj_backend.specs.Trees.{Entries}
 use Rattle.jj_backend.specs.declared.backend.tree_value.TreeValue.{TreeValue}
 use Rattle.jj_backend.specs.declared.backend.tree_value.TreeValue.TheVariants.{File, Symlink, Tree, GitSubmodule}
-use Rattle.store_walks.specs.declared.read_commit.ReadCommit.{ReadCommit}
+use Rattle.jj_store_walks.specs.declared.read_commit.ReadCommit.{ReadCommit}
 
 -- each element of the first list is one of the second
 abbrev pub AreAmong : List (List ℕ) → List (List ℕ) → Type 0

@@ -9,7 +9,7 @@ use Rattle.jj_content.specs.Hex.{IsDecoding, hex_digits}
 use Rattle.jj_dag.specs.NodeGraph.{IsChildFirstOrder}
 use Rattle.jj_history.specs.FileContents.{IsContentAt}
 use Rattle.jj_history.specs.Revisions.{Names, IsNamed, commits_at, ref_commit}
-use Rattle.store_walks.specs.Histories.{InEachHistory}
+use Rattle.jj_store_walks.specs.Histories.{InEachHistory}
 
 module _ (store : Objects) where
   -- the store has a commit with this whole id, in hex digits

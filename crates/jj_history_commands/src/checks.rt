@@ -1,7 +1,7 @@
 //! A check that a store has each object of a history: a breadth-first search of its trees.
 ghost use Rattle.std.specs.Prelude.{◌≡◌, ℕ, List, All, Contains, IfOk, OnOk};
-ghost use Rattle.store_walks.specs.Histories.{IsHistoryOrder};
-ghost use Rattle.store_walks.specs.declared.read_commit.ReadCommit.{ReadCommit as ReadCommitValue};
+ghost use Rattle.jj_store_walks.specs.Histories.{IsHistoryOrder};
+ghost use Rattle.jj_store_walks.specs.declared.read_commit.ReadCommit.{ReadCommit as ReadCommitValue};
 ghost use Rattle.jj_history_commands.specs.FoundObjects.{AreAmong, AreStoredFiles, AreWhole};
 ghost use Rattle.jj_history_commands.specs.FoundObjects.{HasTrees, IsPrefix, IsStoredFile, IsThere};
 ghost use Rattle.jj_history_commands.specs.FoundObjects.{IsWhole};
@@ -10,9 +10,9 @@ use crate::error::CommandError;
 use jj_backend::backend::{Backend, BackendResult, FileId, TreeId, TreeValue};
 use jj_ids::object_id::CommitId;
 use jj_paths::repo_path::RepoPath;
+use jj_store_walks::{ReadCommit, history_order};
 use std::alloc::{AllocError, Global};
 use std::collections::BTreeSet;
-use store_walks::{ReadCommit, history_order};
 
 // Adds a tree to those found, unless it is known.
 fn add_tree(

@@ -12,9 +12,9 @@ use jj_history::ancestry::{bases, heads};
 use jj_history::describing::describe_commit;
 use jj_history::names::CommitNames;
 use jj_ids::object_id::CommitId;
+use jj_store_walks::ReadCommit;
 use std::alloc::{AllocError, Global};
 use std::collections::BTreeMap;
-use store_walks::ReadCommit;
 
 // The most columns of a log.
 const COLUMNS: usize = 2000;

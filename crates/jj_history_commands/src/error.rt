@@ -3,8 +3,8 @@ use jj_backend::backend::BackendError;
 use jj_dag::walk_error::WalkError;
 use jj_filesets::fileset::FilesetParseError;
 use jj_history::error::{ContentError, DrawingError, RevisionError};
+use jj_store_walks::HistoryError;
 use std::alloc::{AllocError, AllocFailed};
-use store_walks::HistoryError;
 use thiserror::Error;
 
 /// Why a command has no output. `quoted` is an operand, in double quotes and escaped.

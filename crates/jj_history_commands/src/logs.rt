@@ -6,8 +6,8 @@ use jj_filesets::fileset::FilesetExpression;
 use jj_history::drawing::draw_order;
 use jj_history::names::CommitNames;
 use jj_ids::object_id::CommitId;
+use jj_store_walks::{ReadCommit, history_order};
 use std::alloc::Global;
-use store_walks::{ReadCommit, history_order};
 
 // Returns whether a tree differs from that of a parent at a path of the set. A tree in conflict
 // does.

@@ -8,9 +8,9 @@ use jj_backend::backend::Backend;
 use jj_history::error::RevisionError;
 use jj_history::revisions::resolve;
 use jj_ids::object_id::{CommitId, ObjectId};
+use jj_store_walks::history_ids;
 use std::alloc::{AllocError, Global};
 use std::collections::BTreeMap;
-use store_walks::history_ids;
 
 /// Returns the commits of a map, in the order of their names.
 pub fn values(alloc: Global, ids: &BTreeMap<String, CommitId>) -> Result<Vec<CommitId>, AllocError>

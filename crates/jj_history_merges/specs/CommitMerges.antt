@@ -4,8 +4,8 @@ use Rattle.std.specs.Prelude.{◌≡◌, ℕ, List, [], ◌∷◌, Some}
 use Rattle.jj_backend.specs.Objects.{Objects}
 use Rattle.jj_backend.specs.Records.{CommitValue}
 use Rattle.jj_history.specs.FileContents.{IsTreeOf}
-use Rattle.store_walks.specs.Histories.{AreMergeBases}
-use Rattle.store_walks.specs.declared.read_commit.ReadCommit.{ReadCommit}
+use Rattle.jj_store_walks.specs.Histories.{AreMergeBases}
+use Rattle.jj_store_walks.specs.declared.read_commit.ReadCommit.{ReadCommit}
 
 module _ (store : Objects) where
   -- the commit is the only merge base of two others

@@ -22,9 +22,9 @@ use jj_history_commands::contents::tree_of;
 use jj_ids::object_id::ObjectId;
 use jj_merges::conflict_labels::ConflictLabels;
 use jj_merges::merge::{Diff, Merge, SameChange};
+use jj_store_walks::ReadCommit;
 use smallvec::SmallVec;
 use std::alloc::{AllocError, Global};
-use store_walks::ReadCommit;
 
 const OPTIONS: MergeOptions = MergeOptions {
     hunk_level: FileMergeHunkLevel::Line,

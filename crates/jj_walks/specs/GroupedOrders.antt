@@ -1,5 +1,5 @@
 -- A grouped order of the nodes of a list. Lists of nodes have the newest first.
--- Cited by contracts of public items through GroupedLaw, store_walks.Histories.
+-- Cited by contracts of public items through GroupedLaw, jj_store_walks.Histories.
 use Rattle.std.specs.Prelude.{◌≡◌, Bool, true, false, not, ◌||◌, List, [], ◌∷◌, reverse, find, Option, Some, MatchOption, ⊤}
 use Rattle.std.specs.List.{Contains, list_all, list_any}
 use Rattle.jj_walks.specs.declared.graph.GraphEdge.{GraphEdge}

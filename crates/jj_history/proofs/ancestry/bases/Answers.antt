@@ -1,6 +1,6 @@
 use Rattle.std.proofs.Common.{◌++◌, ◌∙◌, ℕ, IfOk, List, subst}
 use Rattle.jj_dag.specs.Outcomes.{IfFails}
-use Rattle.store_walks.specs.Histories.{AreMergeBases, IsErrorBelow}
+use Rattle.jj_store_walks.specs.Histories.{AreMergeBases, IsErrorBelow}
 use Rattle.jj_history.proofs.ancestry.bases.Goals as goal
 
 pub returns-clause-bases : goal.returns-clause-bases

@@ -1,5 +1,5 @@
 use Rattle.std.proofs.Common.{subst, sym}
-use Rattle.store_walks.specs.Histories.{AreHeadCommits}
+use Rattle.jj_store_walks.specs.Histories.{AreHeadCommits}
 use Rattle.jj_history.proofs.ancestry.heads.Goals as goal
 
 pub returns-clause-heads : goal.returns-clause-heads

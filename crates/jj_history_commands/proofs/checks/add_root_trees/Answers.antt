@@ -1,7 +1,7 @@
 use Rattle.std.proofs.Common.{ℕ, List, Contains, subst, sym, take}
 use Rattle.std.specs.Prelude.{All}
 use Rattle.std.proofs.lemmas.List.{take_all}
-use Rattle.store_walks.specs.declared.read_commit.ReadCommit.{ReadCommit}
+use Rattle.jj_store_walks.specs.declared.read_commit.ReadCommit.{ReadCommit}
 use Rattle.jj_history_commands.specs.FoundObjects.{HasTrees}
 use Rattle.jj_history_commands.proofs.KnownObjects.{all_taken, among_later}
 use Rattle.jj_history_commands.proofs.checks.add_root_trees.Goals as goal

@@ -1,5 +1,5 @@
 use Rattle.std.proofs.Common.{List, subst}
-use Rattle.store_walks.specs.declared.read_commit.ReadCommit.{ReadCommit}
+use Rattle.jj_store_walks.specs.declared.read_commit.ReadCommit.{ReadCommit}
 use Rattle.jj_history_commands.specs.FoundObjects.{HasTrees}
 use Rattle.jj_history_commands.proofs.KnownObjects.{among_later}
 use Rattle.jj_history_commands.proofs.checks.check_history.Goals as goal

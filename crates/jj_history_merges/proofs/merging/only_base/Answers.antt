@@ -1,6 +1,6 @@
 use Rattle.std.proofs.Common.{◌≡◌, ◌∙◌, ◌<◌, ◌≤◌, ◌∷◌, [], ℕ, List, ap, arith, get_or, length, refl, subst, sym}
-use Rattle.store_walks.specs.Histories.{AreMergeBases}
-use Rattle.store_walks.specs.declared.read_commit.ReadCommit.{ReadCommit}
+use Rattle.jj_store_walks.specs.Histories.{AreMergeBases}
+use Rattle.jj_store_walks.specs.declared.read_commit.ReadCommit.{ReadCommit}
 use Rattle.jj_history_merges.proofs.Yielded.{pushed_first, single}
 use Rattle.jj_history_merges.proofs.merging.only_base.Goals as goal
 
