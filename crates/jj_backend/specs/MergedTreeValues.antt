@@ -17,12 +17,14 @@ Values = List (Option TreeValue)
 
 -- ---- trees and files
 
+-- the value is a tree
 abbrev pub is_tree_value : TreeValue → Bool
 is_tree_value (File id executable copy) = false
 is_tree_value (Symlink id) = false
 is_tree_value (Tree id) = true
 is_tree_value (GitSubmodule id) = false
 
+-- the value is a tree or absent
 abbrev pub is_tree_or_absent : Option TreeValue → Bool
 is_tree_or_absent None = true
 is_tree_or_absent (Some value) = is_tree_value value
@@ -41,12 +43,14 @@ are_file_like values = not (are_trees values)
 
 -- ---- fields of files
 
+-- the id of the file, none for another value
 abbrev pub file_id_of : TreeValue → Option (List ℕ)
 file_id_of (File id executable copy) = Some id
 file_id_of (Symlink id) = None
 file_id_of (Tree id) = None
 file_id_of (GitSubmodule id) = None
 
+-- the executable bit of the file, none for another value
 abbrev pub executable_of : TreeValue → Option Bool
 executable_of (File id executable copy) = Some executable
 executable_of (Symlink id) = None
@@ -82,6 +86,7 @@ with_file_id None (Some id) = Some (File id false [])
 with_file_id (Some (File old executable copy)) (Some id) = Some (File id executable copy)
 with_file_id (Some value) (Some id) = Some value
 
+-- the values with these file ids, one after the other
 abbrev pub with_file_ids : Values → List (Option (List ℕ)) → Values
 with_file_ids [] ids = []
 with_file_ids (value ∷ values) [] = []
@@ -89,6 +94,7 @@ with_file_ids (value ∷ values) (id ∷ ids) = with_file_id value id ∷ with_f
 
 -- ---- descriptions of conflicts
 
+-- the byte string LF
 abbrev pub newline : List ℕ
 newline = 10 ∷ []
 

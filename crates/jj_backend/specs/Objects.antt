@@ -68,22 +68,27 @@ IsRead may_fail found value result =
 
 -- ---- writes: the new objects are the old ones and this one
 
+-- the id had no other file, and the file was added under it; nothing else has changed
 abbrev pub AddsFile : Objects → Objects → List ℕ → List ℕ → Type 0
 AddsFile old new id contents = IsFree old.files id contents
     × (new ≡ record old { files = put old.files id contents })
 
+-- the id had no other link, and the link was added under it; nothing else has changed
 abbrev pub AddsSymlink : Objects → Objects → List ℕ → List ℕ → Type 0
 AddsSymlink old new id target = IsFree old.symlinks id target
     × (new ≡ record old { symlinks = put old.symlinks id target })
 
+-- the id had no other copy history, and this one was added under it; nothing else has changed
 abbrev pub AddsCopy : Objects → Objects → List ℕ → CopyHistoryValue → Type 0
 AddsCopy old new id copy = IsFree old.copies id copy
     × (new ≡ record old { copies = put old.copies id copy })
 
+-- the id had no other tree, and the tree was added under it; nothing else has changed
 abbrev pub AddsTree : Objects → Objects → List ℕ → Entries → Type 0
 AddsTree old new id entries = IsFree old.trees id entries
     × (new ≡ record old { trees = put old.trees id entries })
 
+-- the id had no other commit, and the commit was added under it; nothing else has changed
 abbrev pub AddsCommit : Objects → Objects → List ℕ → CommitValue → Type 0
 AddsCommit old new id commit = IsFree old.commits id commit
     × (new ≡ record old { commits = put old.commits id commit })

@@ -65,18 +65,22 @@ root_commit change_id tree_id = record {
 
 -- ---- equality, field by field
 
+-- equality of timestamps: the same time and the same offset of the zone
 abbrev pub timestamp_eq : Timestamp → Timestamp → Bool
 timestamp_eq = eq_of_both (on (λ time. time.timestamp.0) int_eq)
     (on (λ time. time.tz_offset) int_eq)
 
+-- equality of authors or committers: the same name, email and time
 abbrev pub signature_eq : SignatureValue → SignatureValue → Bool
 signature_eq =
     eq_of_both (on (λ s. s.name) bytes_eq)
     (eq_of_both (on (λ s. s.email) bytes_eq) (on (λ s. s.timestamp) timestamp_eq))
 
+-- equality of cryptographic signatures: the same signed bytes and the same signature
 abbrev pub secure_sig_eq : SecureSigValue → SecureSigValue → Bool
 secure_sig_eq = eq_of_both (on (λ s. s.signed_data) bytes_eq) (on (λ s. s.sig) bytes_eq)
 
+-- equality of copy histories: the same path, parents and salt
 abbrev pub copy_history_eq : CopyHistoryValue → CopyHistoryValue → Bool
 copy_history_eq =
     eq_of_both (on (λ h. h.current_path) path_eq)
@@ -100,5 +104,6 @@ signers_eq =
     (eq_of_both (on (λ c. c.committer) signature_eq)
     (on (λ c. c.secure_sig) (option_eq secure_sig_eq)))
 
+-- equality of commits: all fields are equal
 abbrev pub commit_eq : CommitValue → CommitValue → Bool
 commit_eq = eq_of_both origin_eq (eq_of_both message_eq signers_eq)

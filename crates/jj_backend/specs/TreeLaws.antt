@@ -21,6 +21,7 @@ use Rattle.jj_backend.specs.declared.backend.tree_value.TreeValue.{TreeValue}
 abbrev pub entry_eq : Name × TreeValue → Name × TreeValue → Bool
 entry_eq = eq_of_both (on (λ e. e.0) bytes_eq) (on (λ e. e.1) ghosts.eq)
 
+-- equality of trees: the same entries in the same order
 abbrev pub tree_eq : Entries → Entries → Bool
 tree_eq = pointwise entry_eq
 
@@ -30,6 +31,7 @@ tree_equiv = lists_equiv (and_equiv (on_equiv (λ e. e.0) nat_list_eq_equiv)
 
 -- ---- content: the list of the entries, each with its name before its value
 
+-- the name and the value of the entry fit their types
 abbrev pub IsEntry : Name × TreeValue → Type 0
 IsEntry e = IsShortName e.0 × IsTreeValue e.1
 
@@ -37,9 +39,11 @@ IsEntry e = IsShortName e.0 × IsTreeValue e.1
 abbrev pub IsTree : Entries → Type 0
 IsTree entries = IsTrue (is_sorted name_cmp entries) × AreValues IsEntry entries
 
+-- the content of an entry: its name, then its value
 abbrev pub entry_content : Name × TreeValue → List ℕ
 entry_content e = string_content e.0 ++ tree_value_content e.1
 
+-- the content of a tree: the number of its entries, then each entry
 abbrev pub tree_content : Entries → List ℕ
 tree_content = list_content entry_content
 

@@ -25,6 +25,7 @@ pub record IsEntryAt (entries : Entries) (name : Name) (index : ℕ) : Type 0 wh
   pub has_value : (d : Name × TreeValue) → value_at entries name
       ≡ Some (slice_index_or entries index d).1
 
+-- the name and the value of an entry
 abbrev pub entry_of : TreeEntry → Name × TreeValue
 entry_of entry = (name_of entry.name, entry.value.now)
 
@@ -32,5 +33,6 @@ entry_of entry = (name_of entry.name, entry.value.now)
 abbrev pub entries_left : TreeEntriesNonRecursiveIterator → Entries
 entries_left left = left.rest.now
 
+-- the names that an iterator has not yielded yet
 abbrev pub names_left : TreeNames → List Name
 names_left left = map (λ entry. entry.0) (entries_left left.entries)

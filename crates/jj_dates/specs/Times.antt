@@ -6,12 +6,15 @@ use Rattle.jiff.specs.Words.{plain_zoned, fixed_zone, IsTimestampNanos}
 use Rattle.jiff.specs.declared.zoned.Zoned.{Zoned}
 use Rattle.jj_backend.specs.declared.backend.timestamp.Timestamp.{Timestamp}
 
+-- the number of seconds in a minute
 abbrev pub seconds_in_minute : ℤ
 seconds_in_minute = pos 60
 
+-- the number of nanoseconds in a millisecond
 abbrev pub nanoseconds_in_millisecond : ℤ
 nanoseconds_in_millisecond = pos 1_000_000
 
+-- milliseconds in nanoseconds
 abbrev pub nanoseconds : ℤ → ℤ
 nanoseconds millis = millis *ℤ nanoseconds_in_millisecond
 

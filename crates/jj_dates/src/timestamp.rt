@@ -57,9 +57,13 @@ impl TimestampExt for Timestamp {
     }
 
     fn to_datetime(&self) -> Result<Zoned<'static>, TimestampOutOfRange>
+        // The conversion succeeds exactly if `jiff` can represent the instant.
         ensures succeeds { IsOk result ↔ IsTimestampNanos (nanoseconds self.now.timestamp.0) }
+        // The result is the same instant, in milliseconds since 1970.
         ensures instant { IfOk result (λ z. (plain_zoned z).timestamp.nanosecond
             ≡ nanoseconds self.now.timestamp.0) }
+        // Its time zone has the fixed offset of the timestamp, or is UTC for an offset of a day or
+        // more.
         ensures offset { IfOk result (λ z. HasOffset z (offset_seconds self.now.tz_offset)) }
     {
         let minutes = self.tz_offset;

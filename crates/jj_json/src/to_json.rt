@@ -58,6 +58,8 @@ pub trait ToJson {
     /// Converts the value to JSON. Returns `TimestampOutOfRange` if a timestamp in the value has no
     /// date, and `Memory` if memory runs out.
     fn to_json(&self, alloc: Global) -> Result<Value, ToJsonError>
+        // The result is JSON that represents the value, or the error of a timestamp out of range or
+        // of memory.
         ensures { IsJsonResult (is_in_range self.now) (is_json self.now) result };
 }
 

@@ -87,7 +87,7 @@ pub appended : {L : Type 0} (contains : L → List LogEntryValue → Type 0) (lo
 appended {L} contains log new_log entries objects object had (inl same) = inl (same.0, subst (λ (l : L). contains l entries) (sym same.1) had)
 appended {L} contains log new_log entries objects object had (inr lacks) = inr (lacks.0, lacks.1 entries had)
 
--- New holds of the entries of the new log
+-- the entries of the new log have property New
 module _ (New : List LogEntryValue → Type 0) (entries : List LogEntryValue) (old : MemoryBackendValue) (object : Object) (replay : IsReplay entries old)
     (fits : IsReplayable (objects_of old) object) (not_empty : object ≢ tree_object []) where
   abbrev pub Once : Type 0

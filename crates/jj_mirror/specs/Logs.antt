@@ -12,12 +12,12 @@ use Rattle.jj_backend.specs.declared.signing.SignError.{SignError}
 use Rattle.jj_mirror.specs.Entries.{LogEntryValue, entry_of}
 use Rattle.jj_mirror.specs.Objects.{HasObject, IsDigestTaken, IsParentless, IsReplayable}
 
--- P holds of these entries if they contain the entry, else of them and the entry at the end
+-- these entries have property P if they contain the entry, else they do with the entry appended
 abbrev pub WithEntry : (List LogEntryValue → Type 0) → List LogEntryValue → LogEntryValue → Type 0
 WithEntry P entries entry = (Contains entries entry × P entries)
     ⊎ (¬ (Contains entries entry) × P (entries ++ entry ∷ []))
 
--- P holds of these entries and, at the end, those of the list that they lack, each once
+-- these entries have property P once those of the list that they lack are appended, each once
 abbrev pub WithEntries : (List LogEntryValue → Type 0) → List LogEntryValue → List LogEntryValue
     → Type 0
 WithEntries P entries [] = P entries

@@ -46,7 +46,9 @@ impl<L: ObjectLog> Mirrored<L> {
     pub fn new(backend: MemoryBackend, log: L) -> Result<Self, (MemoryBackend, L)>
         ensures backend { IfOk result (λ store. store.backend ≡ backend) }
         ensures log { IfOk result (λ store. store.log ≡ log) }
+        // An error returns the backend and the log.
         ensures refused { IfErr result (λ e. e ≡ (backend, log)) }
+        // It occurs only if the IDs of the backend are not whole digests.
         ensures cause { OnErr result (backend.id_length ≢ digest_length) }
     {
         if backend.commit_id_length() == DIGEST_LENGTH {
@@ -259,9 +261,13 @@ impl<L: ObjectLog> Backend for Mirrored<L> {
         ensures id { IfOk result (λ id. id ≡ (entry_of (file_object contents.now)).id) }
         ensures frame { self.new.backend
             ≡ record self.old.backend { files = self.new.backend.files } }
+        // After a success the entry of the file was appended, unless the backend had the file, and
+        // replay accepts it.
         ensures logged { OnOk result (Logs L.contains self.old.log self.new.log
             (objects_of self.old.backend) (file_object contents.now)) }
         ensures unchanged { OnErr result (self.new.backend ≡ self.old.backend) }
+        // An error is one of logging the file, and the log has its old entries; or memory ran out
+        // after the file was logged.
         ensures error { IfErr result (IsLoggedError L.contains self.old.log self.new.log L.may_fail
             (objects_of self.old.backend) (file_object contents.now)) }
     {
@@ -337,14 +343,23 @@ impl<L: ObjectLog> Backend for Mirrored<L> {
         path: RepoPath<'_>,
         contents: &Tree,
     ) -> BackendResult<TreeId>
+        // The tree was added under the ID returned, which no different tree had; no other object
+        // has changed.
         ensures ok { IfOk result (λ id. AddsTree (objects_of self.old.backend)
             (objects_of self.new.backend) id contents.now) }
+        // The ID is the digest of the content of the tree, under which the log has it.
         ensures id { IfOk result (λ id. id ≡ (entry_of (tree_object contents.now)).id) }
+        // Only trees were added to the backend.
         ensures frame { self.new.backend
             ≡ record self.old.backend { trees = self.new.backend.trees } }
+        // After a success the entry of the tree was appended, unless the backend had the tree, and
+        // replay accepts it.
         ensures logged { OnOk result (Logs L.contains self.old.log self.new.log
             (objects_of self.old.backend) (tree_object contents.now)) }
+        // After an error the backend is unchanged.
         ensures unchanged { OnErr result (self.new.backend ≡ self.old.backend) }
+        // An error is one of logging the tree, and the log has its old entries; or memory ran out
+        // after the tree was logged.
         ensures error { IfErr result (IsLoggedError L.contains self.old.log self.new.log L.may_fail
             (objects_of self.old.backend) (tree_object contents.now)) }
     {
@@ -364,19 +379,29 @@ impl<L: ObjectLog> Backend for Mirrored<L> {
         contents: Commit,
         sign_with: Option<&mut S>,
     ) -> BackendResult<(CommitId, Commit)>
+        // The commit as stored was added under the ID returned, which no different commit had; no
+        // other object has changed.
         ensures ok { IfOk result (λ stored. AddsCommit (objects_of self.old.backend)
             (objects_of self.new.backend) stored.0 stored.1) }
+        // The ID is the digest of the content of the stored commit, under which the log has it.
         ensures id { IfOk result (λ stored. stored.0 ≡ (entry_of (commit_object stored.1)).id) }
         ensures frame { self.new.backend
             ≡ record self.old.backend { commits = self.new.backend.commits } }
+        // The stored commit is the commit as it was passed, or with a signature of its content if
+        // there is a signer.
         ensures signed { IfOk result (λ stored.
             IsSigned S.may_sign (option_map (λ f. f.now) sign_with.entry) contents stored.1) }
         ensures parents { OnOk result (contents.parents ≢ []) }
         ensures not_called { contents.parents ≡ []
             → signer_after (λ f. f.0.now) sign_with.exit ≡ option_map (λ f. f.now) sign_with.entry }
+        // After a success the entry of the stored commit was appended, unless the backend had the
+        // commit, and replay accepts it.
         ensures logged { IfOk result (λ stored. Logs L.contains self.old.log self.new.log
             (objects_of self.old.backend) (commit_object stored.1)) }
+        // After an error the backend is unchanged.
         ensures unchanged { OnErr result (self.new.backend ≡ self.old.backend) }
+        // An error is that of the signer or of a commit without parents, and the log has its old
+        // entries, or one of logging the stored commit.
         ensures error { IfErr result (IsCommitFailure L.contains self.old.log self.new.log
             L.may_fail (objects_of self.old.backend) S.may_sign
             (option_map (λ f. f.now) sign_with.entry) contents) }

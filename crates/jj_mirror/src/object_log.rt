@@ -103,9 +103,12 @@ pub trait ObjectLog {
         id: &[u8],
         bytes: &[u8],
     ) -> BackendResult<()>
+        // After a success the log contains its old entries and then this one.
         ensures ok { OnOk result (Appends contains self.old self.new
             (record { kind = kind; id = id.now; bytes = bytes.now })) }
+        // After an error it contains its old entries.
         ensures unchanged { OnErr result (Keeps contains self.old self.new) }
+        // An error is one that appending this entry may return.
         ensures error { IfErr result (may_fail self.old
             (record { kind = kind; id = id.now; bytes = bytes.now })) };
 }

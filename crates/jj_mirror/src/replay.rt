@@ -19,6 +19,7 @@ pub fn replay(alloc: Global, entries: &[LogEntry]) -> Result<MemoryBackend, Repl
     // The backend stores the objects of these entries under their ids, and no others besides the
     // initial objects of a new backend.
     ensures ok { IfOk result (IsReplay entries.now) }
+    // An error names the first entry that cannot be replayed, or memory ran out.
     ensures error { IfErr result (IsReplayError entries.now) }
     // The reason and the offset of a malformed entry are those of decoding its bytes as its kind.
     ensures cause { IfErr result (IsReplayCause ⟦<CopyHistory as ReadContent>⟧.errors

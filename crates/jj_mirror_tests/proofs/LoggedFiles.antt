@@ -19,7 +19,7 @@ one_more files i file lt is =
     let more : take i files ++ file ∷ [] ≡ take (i + 1) files = ap (λ z. take i files ++ z ∷ []) is ∙ sym (take_more files i file lt) in
     sym (map-append (λ (f : Vec ℕ Global). entry_of (file_object f.items)) (take i files) (file ∷ [])) ∙ ap entries_of more
 
--- a claim that holds for each list of entries that the log may have
+-- a claim that is true of each list of entries that the log may have
 pub with_one : (P : List LogEntryValue → Type 0) (Q : Type 0) → ((all : List LogEntryValue) → P all → Q) → (entries : List LogEntryValue) (entry : LogEntryValue) → WithEntry P entries entry → Q
 with_one P Q holds entries entry (inl has) = holds entries has.1
 with_one P Q holds entries entry (inr lacks) = holds (entries ++ entry ∷ []) lacks.1

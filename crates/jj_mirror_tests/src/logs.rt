@@ -196,8 +196,8 @@ pub fn replayed_files(alloc: Global, files: &[Vec<u8>]) -> Result<MemoryBackend,
 }
 
 /// Opens the store of a log, writes files, up to the first write that fails, and replays the log.
-/// An error is that of the first entry of the given log that cannot be replayed, or memory ran out:
-/// no written file makes one.
+/// An error is that of the first entry of `entries` that cannot be replayed, or memory ran out: no
+/// written file causes one.
 pub fn extended_log(
     alloc: Global,
     log: MemoryLog,

@@ -1,4 +1,4 @@
--- A log in a transaction: its statements, on a connection that shows what it did.
+-- A log in a transaction: its statements, on a connection that reads the same rows as before.
 use Rattle.std.proofs.Common.{◌≡◌, ◌∙◌, ◌++◌, [], ◌∷◌, inl, inr, ℕ, List, Bool, true, false, not, None, Ok, Err, IsTrue, map, append-nil, refl, sym, ap, subst, subst₂, arith}
 use Rattle.sqlite.proofs.Callers.{IsPlain, command_of, statement_of, runs_as}
 use Rattle.sqlite.specs.Command.TheVariants.{Insert, Begin, Commit as Commits}
@@ -20,7 +20,7 @@ use Rattle.jj_sqlite.proofs.Crashes.{ended, leaves}
 use Rattle.jj_sqlite.proofs.LogTable.{logged, made, rolled_back, unchanged}
 use Rattle.jj_sqlite.proofs.Statements.{begin_is, begin_plain, commit_is, commit_plain, insert_is, insert_plain, terms}
 
--- a connection that shows the same sees the same entries
+-- a connection that reads the same database reads the same entries
 still_shows : (old new : State) (entries : List LogEntryValue) → ShowsEntries old entries → IsUnchanged old new → ShowsEntries new entries
 still_shows old new entries has same = (
   has.0,
@@ -28,7 +28,7 @@ still_shows old new entries has same = (
   subst (λ (d : Database). HasRows has.0 d.trees entries) (sym same.0.now_is) has.2,
 )
 
--- the trees that a sound database shows are those of a log
+-- the trees that a sound database represents are those of a log
 shown_log : (s : State) (entries : List LogEntryValue) → ShowsEntries s entries → IsDatabase s.now → HasLog s.now.trees entries
 shown_log s entries has sound = record {
   counted = has.0;

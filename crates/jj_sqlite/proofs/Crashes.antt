@@ -1,4 +1,4 @@
--- A crash of a log: its statements, on a connection that shows what it did.
+-- A crash of a log: its statements, on a connection that reads the same rows as before.
 use Rattle.std.proofs.Common.{true, refl, ◌≡◌, ◌∙◌, ◌⊎◌, ◌++◌, [], ◌∷◌, inl, inr, ℕ, List, Result, Ok, Err, IsTrue, sym, subst, arith}
 use Rattle.sqlite.specs.Tree.{Trees}
 use Rattle.sqlite.specs.Store.{Ghosts}
@@ -14,7 +14,7 @@ use Rattle.jj_sqlite.specs.Inserts.{ContainsEntries, StoresEntries, WasNewOrCont
 use Rattle.jj_sqlite.specs.Tables.{count_statement, create_statement, entry_row, insert_statement, is_counted, select_statement}
 use Rattle.jj_sqlite.proofs.LogTable.{failed, not_ran, twice, unchanged, unchanged_new, inserts_durably, committed_by, created_by, creates_durably, creates, keeps, keeps_not_run, shown_open, keeps_reading, reading_commits_nothing, keeps_counting, counting_commits_nothing}
 
--- a statement that ran on a connection that shows the same
+-- a statement that ran on a connection that reads the same database
 pub ran : {S : Type 0} (g : Ghosts S) (sql : List ℕ) (params : Row) (old same new : Held S) (r : Result ℕ Error) → IsUnchanged (state g old) (state g same)
     → Executes sql params (state g same) (state g new) r → RunsAsIs g sql params old new r
 ran g sql params old same new (Ok count) unchanged runs = (same, unchanged, runs)

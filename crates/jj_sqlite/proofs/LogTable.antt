@@ -207,7 +207,7 @@ unfolding IsNotRun
 not_ran sql params old new e (inl not_run) = inl not_run.1
 not_ran sql params old new e (inr fails) = inr fails.3
 
--- a connection that shows the same as one that shows the same
+-- that two connections read the same database is transitive
 pub twice : (old same new : State) → IsUnchanged old same → IsUnchanged same new → IsUnchanged old new
 twice old same new a b = (
   record {
@@ -296,7 +296,7 @@ creates_durably old new count entries (inr none) live h =
     let w = subst (λ t. Writes old new None CreateTable t [] count) create_is.1 (runs_as create_statement [] old new no_schema none.0.0 CreateTable create_is.0 create_plain count h) in
     (w.shown.is_open, logged new entries (created_table old new count entries (inr none) h) w.sound)
 
--- a connection that shows the same is on a new database, or has the same entries
+-- a connection that reads the same database is on a new one, or has the same entries
 pub unchanged_new : (old new : State) (entries : List LogEntryValue) → IsNewOrHas old entries → IsUnchanged old new → IsNewOrHas new entries
 unchanged_new old new entries (inl has) same = inl (unchanged old new entries has same)
 unchanged_new old new entries (inr none) same = inr ((ap (λ (d : Database). d.schema) same.0.now_is ∙ none.0.0, same.0.mode ∙ none.0.1), none.1)
@@ -305,7 +305,7 @@ pub creates : (old new : State) (count : ℕ) (entries : List LogEntryValue) →
     → HasEntries new entries
 creates old new count entries had h live = created_table old new count entries (had (was_open create_statement [] old new count h live)) h
 
--- a connection that shows the same has only rows of the same entries
+-- a connection that reads the same database has only rows of the same entries
 still_only : (old new : State) (entries : List LogEntryValue) → HasOnlyRowsOf old entries → IsUnchanged old new → HasOnlyRowsOf new entries
 still_only old new entries has same = (
   has.0,
@@ -347,7 +347,7 @@ shows : (rows : List Row) → map (λ (o : Output). o.1) (map shown_output rows)
 shows [] = refl
 shows (r ∷ rows) = ap (λ all. logged_columns r ∷ all) (shows rows)
 
--- the query shows the rows, in some order
+-- the query returns the rows, in some order
 shows_all : (db : Trees) (shown : List Row) → IsAnswer query (overlay db []) [] shown → IsPermutation (map logged_columns (db 0)) shown
 shows_all db shown a =
     let kept : a.kept ≡ map shown_output (db 0) = a.distinct ∙ ap (map (output query)) a.grouped ∙ outputs (db 0) in
@@ -362,7 +362,7 @@ outputs_ascend : (rows : List Row) → IsAscending (λ a b. value_cmp (rowid a) 
 outputs_ascend [] up = tt
 outputs_ascend (r ∷ rows) up = (outputs_below r rows up.0, outputs_ascend rows up.1)
 
--- numbered rows are shown in their order
+-- numbered rows are returned in their order
 shows_in_order : (db : Trees) (entries : List LogEntryValue) (shown : List Row) → map logged_columns (db 0) ≡ log_rows entries → IsAnswer query (overlay db []) [] shown → shown ≡ log_rows entries
 shows_in_order db entries shown is a =
     let kept : a.kept ≡ map shown_output (db 0) = a.distinct ∙ ap (map (output query)) a.grouped ∙ outputs (db 0) in
@@ -423,7 +423,7 @@ keeps_reading old new rows entries has h = unchanged old new entries has (shown_
 pub reading_commits_nothing : (s : State) (entries : List LogEntryValue) (db : Trees) → HasEntries s entries → ¬ CommitsShowing select_statement [] s db
 reading_commits_nothing s entries db has = never_commits select_statement [] s db (subst (λ k. IsPlain (understood k select_statement)) (sym has.schema) (select_plain has.counted))
 
--- the rows that are shown are those of the table, in their order
+-- the returned rows are those of the table, in their order
 pub shown_rows : (old new : State) (rows : List Row) (entries : List LogEntryValue) → HasEntries old entries → Shown select_statement [] old new rows → rows ≡ log_rows entries
 shown_rows old new rows entries has h =
     let answer = (reads_as select_statement [] old new (log_schema has.counted) has.schema _ (select_is has.counted).0 (select_plain has.counted) (select_is has.counted).1 rows h).answer in
@@ -514,7 +514,7 @@ pub counting_commits_nothing : (s : State) (entries : List LogEntryValue) (db : 
 counting_commits_nothing s entries db has counted =
     never_commits count_statement [] s db (subst (λ k. IsPlain (understood k count_statement)) (sym (counts_them s entries has counted).0) count_plain)
 
--- the count of the entries is the one that is shown
+-- the returned count is that of the entries
 pub shows_length : (old new : State) (counts : List Row) (entries : List LogEntryValue) → HasEntries old entries → is_counted old.now.schema ≡ true → Shown count_statement [] old new counts
     → ShowsCount (length entries) counts
 shows_length old new counts entries has counted h =
@@ -538,7 +538,7 @@ pub row_count : (entries : List LogEntryValue) (count : ℕ) → length (rows_af
 row_count [] count = refl
 row_count (e ∷ entries) count = ap suc (row_count entries (count + 1))
 
--- a database whose table has these entries shows no other count
+-- a database whose table has these entries returns no other count
 pub never_lost : (old mid new : State) (rows counts : List Row) (entries : List LogEntryValue) → HasEntries old entries → Shown select_statement [] old mid rows → is_counted mid.now.schema ≡ true
     → Shown count_statement [] mid new counts → ¬ (¬ ShowsCount (length rows) counts)
 never_lost old mid new rows counts entries has shown counted shows wrong =

@@ -318,7 +318,7 @@ pub count_plain : IsPlain (understood (log_schema true) count_statement)
 unfolding understood everything
 count_plain = (refl, refl)
 
--- the rows that the count shows
+-- the rows that the query of the count returns
 pub counts_are : (old new : State) (n : ℕ) (counts : List Row) → old.now.schema ≡ log_schema true → old.now.trees 1 ≡ count_rows n → Shown count_statement [] old new counts → counts ≡ count_column n
 counts_are old new zero counts schema has shown =
     no_rows counts (shows_counts old.now.trees zero counts has ((reads_as count_statement [] old new (log_schema true) schema _ count_is.0 count_plain count_is.1 counts shown).answer Null))

@@ -20,17 +20,18 @@ abbrev pub FilesContain : {D : Type 0} (g : Ghosts D) → Files D → List LogEn
 FilesContain {D} g files entries = (conn : Held (FileStore D g)) → HasCleanDisk (file_state conn)
     → Finds files conn → IsOpened conn → ContainsEntries over_files conn entries
 
--- this content of the files holds the database of a log with these entries
+-- this content of the files is the database of a log with these entries
 abbrev pub ImageContains : Image → List LogEntryValue → Type 0
 ImageContains image entries = ∥ ((db : Trees) × HoldsDatabase image db × HasLog db entries) ∥₁
 
--- so has each content of the closed files that a crash at this moment may leave
+-- each content of the closed files that a crash at this moment may leave is the database of a log
+-- with these entries
 abbrev pub CrashContains : {D : Type 0} (g : Ghosts D) → Files D → List LogEntryValue → Type 0
 CrashContains g files entries = AreClean g files.log files.db → (image : Image)
     → outcomes g files.log files.db image → ImageContains image entries
 
--- The database file by itself, beside an empty write-ahead log, holds the database of a log with
--- these entries, as it reads now and after a crash.
+-- The database file by itself, beside an empty write-ahead log, is the database of a log with these
+-- entries, as it reads now and after a crash.
 pub record IsBackup {D : Type 0} (g : Ghosts D) (files : Files D) (entries : List LogEntryValue)
     : Type 0 where
   pub now : AreClean g files.log files.db

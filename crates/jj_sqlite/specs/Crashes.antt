@@ -31,7 +31,7 @@ module _ {S : Type 0} (g : Ghosts S) where
   LeavesEntries conn entries = HasCleanDisk (state g conn) → (db : Trees)
       → (state g conn).may_leave db → HasLogAfterCrash db entries
 
-  -- the statement was executed on a connection that shows what the old one does, or was not run
+  -- the statement ran on a connection that reads the same database as the old one, or did not run
   abbrev pub RunsAsIs : List ℕ → Row → Held S → Held S → Result ℕ Error → Type 0
   RunsAsIs sql params old new (Ok count) = (same : Held S)
       × IsUnchanged (state g old) (state g same)
@@ -40,7 +40,7 @@ module _ {S : Type 0} (g : Ghosts S) where
       ⊎ ((same : Held S) × IsUnchanged (state g old) (state g same)
       × Executes sql params (state g same) (state g new) (Err e))
 
-  -- the statement commits this database on a connection that shows what the old one does
+  -- the statement commits this database on a connection that reads the same one as the old
   abbrev pub CommitsAsIs : List ℕ → Row → Held S → Trees → Type 0
   CommitsAsIs sql params old db = (same : Held S) × IsUnchanged (state g old) (state g same)
       × CommitsBy sql params (state g same) db

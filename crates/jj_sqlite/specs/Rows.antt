@@ -39,7 +39,7 @@ AreNumberedAfter count (row ∷ rows) =
 abbrev pub AreNumbered : List Row → Type 0
 AreNumbered rows = AreNumberedAfter 0 rows
 
--- the rows show a count of so many: no row if there are none, else one with the number
+-- the rows represent the count: no row if it is zero, else one with the number
 abbrev pub ShowsCount : ℕ → List Row → Type 0
 ShowsCount count [] = count ≡ 0
 ShowsCount count (row ∷ []) = column row 0 ≡ Int (pos count)

@@ -29,7 +29,7 @@ pub record IsStoreOf {S : Type 0} (g : Ghosts S) (conn log : Held S) (backend : 
       → StoresEntries g log entries
   pub own : ¬ (IsForeign (state g conn).now.schema)
 
--- so it is on a connection that was opened on the files
+-- the log and the backend are the store on a connection that was opened on the files
 abbrev pub IsStoreInFile : {D : Type 0} {g : DiskGhosts D} → Held (FileStore D g)
     → MemoryBackendValue → Type 0
 IsStoreInFile {D} {g} log backend = (conn : Held (FileStore D g))

@@ -13,17 +13,21 @@ use Rattle.sqlite.specs.Tree.{Trees}
 use Rattle.sqlite_schema.specs.Names.{table_named}
 use Rattle.jj_mirror.specs.Entries.{LogEntryValue, kind_name}
 
+-- the statement that creates the table of a log, if there is none
 abbrev pub create_statement : List ℕ
 create_statement =
     codes "CREATE TABLE IF NOT EXISTS object_log (seq INTEGER PRIMARY KEY AUTOINCREMENT, "
     ++ codes "kind TEXT NOT NULL, id BLOB NOT NULL, bytes BLOB NOT NULL) STRICT"
 
+-- the statement that appends a row
 abbrev pub insert_statement : List ℕ
 insert_statement = codes "INSERT INTO object_log (kind, id, bytes) VALUES (?1, ?2, ?3)"
 
+-- the statement that reads all rows in order
 abbrev pub select_statement : List ℕ
 select_statement = codes "SELECT seq, kind, id, bytes FROM object_log ORDER BY seq"
 
+-- the statement that reads the number of rows that SQLite has counted
 abbrev pub count_statement : List ℕ
 count_statement = codes "SELECT seq FROM sqlite_sequence WHERE name = 'object_log'"
 
@@ -64,10 +68,12 @@ count_table = record (log_table false) {
   primary = [];
 }
 
+-- the table of a log, and if `counted` that of SQLite's count of rows
 abbrev pub log_tables : Bool → List Table
 log_tables true = log_table true ∷ count_table ∷ []
 log_tables false = log_table false ∷ []
 
+-- the schema of a log: its table, and if `counted` that of SQLite's count of rows
 abbrev pub log_schema : Bool → Schema
 log_schema counted = record { tables = log_tables counted; indexes = []; views = [] }
 
@@ -119,7 +125,7 @@ ShowsEntries s entries = (counted : Bool) × (s.now.schema ≡ log_schema counte
     × HasRows counted s.now.trees entries
 
 -- The database has only the table of a log, whose rows are those of these entries, in their order
--- and numbered from 1. No transaction is open, and the last commit has what the connection shows.
+-- and numbered from 1. No transaction is open, and the connection reads the last commit.
 pub record HasEntries (s : State) (entries : List LogEntryValue) : Type 0 where
   pub counted : Bool
   pub schema : s.now.schema ≡ log_schema counted
@@ -142,7 +148,8 @@ abbrev pub HasOnlyRowsOf : State → List LogEntryValue → Type 0
 HasOnlyRowsOf s entries = (counted : Bool) × (s.now.schema ≡ log_schema counted)
     × All (Contains (log_rows entries)) (map logged_columns (s.now.trees 0))
 
--- so it is, and SQLite has counted as many rows as there are entries
+-- The rows of the table are among those of these entries, and SQLite has counted as many rows as
+-- there are entries.
 abbrev pub CountsRowsOf : State → List LogEntryValue → Type 0
 CountsRowsOf s entries = (s.now.schema ≡ log_schema true)
     × All (Contains (log_rows entries)) (map logged_columns (s.now.trees 0))

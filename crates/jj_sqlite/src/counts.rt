@@ -32,7 +32,7 @@ fn select_counts<S: Alter>(conn: &mut Connection<S>) -> Result<Vec<Row>, Error>
     )
 }
 
-// Returns whether the rows show this count. SQLite keeps no row before the first insertion.
+// Returns whether the rows represent this count. SQLite has no row before the first insertion.
 fn shows_count(rows: &[Row], count: usize) -> bool
     ensures { IsTrue result ↔ ShowsCount count rows.now }
 {

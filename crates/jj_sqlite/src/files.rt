@@ -194,7 +194,7 @@ fn open_on<D: Disk + Drop>(
 
 /// Opens the store in the database file at a path, and creates both if there is no file. Waits as
 /// `open_database` does, and fails as that and `open_store` do. After an error there is no new file
-/// beside the database, but for what a full disk has of a new one.
+/// beside the database, except a partial new one on a full disk.
 pub fn open_store_file(
     rt: &HostRuntime,
     path: &str,

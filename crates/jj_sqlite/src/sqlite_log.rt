@@ -54,6 +54,7 @@ impl<S: Alter> SqliteLog<S> {
         ensures damaged { IfOk result (λ log. HasCleanDisk (state S.Store log.conn)
             → (entries : List LogEntryValue) → HasOnlyRowsOf (state S.Store conn) entries
             → HasOnlyRowsOf (state S.Store log.conn) entries) }
+        // If SQLite has counted all entries, it still has.
         ensures counted { IfOk result (λ log. HasCleanDisk (state S.Store log.conn)
             → (entries : List LogEntryValue) → CountsRowsOf (state S.Store conn) entries
             → CountsRowsOf (state S.Store log.conn) entries) }

@@ -24,7 +24,7 @@ use Rattle.jj_sqlite.specs.Opening.{IsOpened}
 abbrev pub file_entry : List ℕ → LogEntryValue
 file_entry contents = entry_of (file_object contents)
 
--- P holds of these entries, which contain the entry, or of them and the entry at the end
+-- these entries contain the entry and have property P, or they have it with the entry appended
 abbrev pub HasWith : (List LogEntryValue → Type 0) → List LogEntryValue → LogEntryValue → Type 0
 HasWith P entries entry = (Contains entries entry × P entries) ⊎ P (entries ++ entry ∷ [])
 
@@ -37,7 +37,7 @@ pub record SavesEntry {D : Type 0} (g : Ghosts D) (files : Files D) (entries : L
   pub backup : HasWith (IsBackup g files) entries entry
 
 -- A connection that was opened on the files found their database. The backend of its log's rows has
--- the commit under the id, and this connection is what reading them left.
+-- the commit under the id, and this is the connection after reading them.
 pub record IsLoaded {D : Type 0} (g : Ghosts D) (files : Files D) (conn : Held (FileStore D g))
     (id : List ℕ) (commit : CommitValue) : Type 0 where
   pub opened : Held (FileStore D g)
@@ -47,13 +47,14 @@ pub record IsLoaded {D : Type 0} (g : Ghosts D) (files : Files D) (conn : Held (
   pub is_replay : IsOpened over_files opened conn backend
   pub found : (objects_of backend).commits id ≡ Some commit
 
--- this content of the files holds the database of a log with these entries, and at most one more,
+-- this content of the files is the database of a log with these entries, and at most one more,
 -- whose write failed
 abbrev pub MayContain : Image → List LogEntryValue → Type 0
 MayContain image entries =
     ∥ ((db : Trees) × HoldsDatabase image db × HasLogAfterCrash db entries) ∥₁
 
--- so has each content that a crash at this moment may leave of the files of a store
+-- each content of the files of a store that a crash at this moment may leave is the database of a
+-- log with these entries, and at most one more, whose write failed
 abbrev pub CrashLeaves : {D : Type 0} {g : Ghosts D} → FileStore D g → List LogEntryValue → Type 0
 CrashLeaves files entries = (image : Image) → (store.state files).may_leave image
     → MayContain image entries

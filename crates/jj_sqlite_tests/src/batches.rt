@@ -34,9 +34,11 @@ pub fn commit_all<S: Alter>(
     mut batch: SqliteBatch<S>,
     entries: &[LogEntry],
 ) -> Result<SqliteLog<S>, (OpenError, Connection<S>)>
+    // After a success the log has the entries from before and then all of these.
     ensures ok { IfOk result (λ log. (kept before : List LogEntryValue)
         → IsBatch S.Store batch.conn kept before
         → StoresEntries S.Store log.conn (before ++ entries.now)) }
+    // After an error a crash leaves a database with all of these entries or none of them.
     ensures crash { IfErr result (λ e. (kept before : List LogEntryValue)
         → IsBatch S.Store batch.conn kept before
         → LeavesAllOrNone S.Store e.1 kept (before ++ entries.now)) }

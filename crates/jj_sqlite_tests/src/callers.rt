@@ -36,12 +36,16 @@ pub fn log_commit<S: Alter>(
     store: &mut Mirrored<SqliteLog<S>>,
     commit: Commit,
 ) -> BackendResult<CommitId>
+    // The ID is the BLAKE2b-512 digest of the content of the commit.
     ensures id { IfOk result (λ id. id ≡ blake2b (commit_content commit)) }
+    // The fields of a stored commit fit their types.
     ensures value { OnOk result (IsCommit commit) }
+    // If the log has the entry of the commit it is unchanged, else the entry is appended.
     ensures once { OnOk result ((entries : List LogEntryValue)
         → StoresEntries S.Store store.old.log.conn entries → IsReplay entries store.old.backend
         → WithEntry (StoresEntries S.Store store.new.log.conn) entries
         (entry_of (commit_object commit))) }
+    // The log has its old entries and that of the commit.
     ensures logged { OnOk result ((entries : List LogEntryValue)
         → StoresEntries S.Store store.old.log.conn entries
         → (HasCleanDisk (state S.Store store.old.log.conn)
@@ -62,8 +66,11 @@ pub fn write_stored<S: Alter>(
     conn: Connection<S>,
     commit: Commit,
 ) -> (Result<CommitId, OpenError>, Connection<S>)
+    // The ID is the BLAKE2b-512 digest of the content of the commit.
     ensures id { IfOk result.0 (λ id. id ≡ blake2b (commit_content commit)) }
+    // The fields of a stored commit fit their types.
     ensures value { OnOk result.0 (IsCommit commit) }
+    // The table has the rows of its old entries and that of the commit.
     ensures logged { OnOk result.0 ((entries : List LogEntryValue)
         → WasNewOrContains S.Store conn entries → HasWith (StoresEntries S.Store result.1)
         entries (entry_of (commit_object commit))) }
@@ -87,6 +94,7 @@ pub fn read_stored<S: Alter>(
     conn: Connection<S>,
     id: &CommitId,
 ) -> (Result<Commit, OpenError>, Connection<S>)
+    // If the table has the row of a commit, reading its digest returns this commit.
     ensures value { HasCleanDisk (state S.Store result.1) → IfOk result.0 (λ read.
         (entries : List LogEntryValue) → WasNewOrContains S.Store conn entries
         → (commit : CommitValue) → IsCommit commit
@@ -96,6 +104,7 @@ pub fn read_stored<S: Alter>(
     ensures found { HasCleanDisk (state S.Store result.1) → IfOk result.0 (λ read.
         (backend : MemoryBackendValue) × IsOpened S.Store conn result.1 backend
         × ((objects_of backend).commits id.now ≡ Some read)) }
+    // If the disk has returned only what was written to it up to the end, it had at the start.
     ensures clean { IfOk result.0 (λ _. HasCleanDisk (state S.Store result.1)
         → HasCleanDisk (state S.Store conn)) }
 {
@@ -118,14 +127,19 @@ pub fn save_commit<D: Disk + Drop>(
     conn: Connection<FileStore<D>>,
     commit: Commit,
 ) -> Result<(CommitId, Files<D>), OpenError>
+    // The ID is the BLAKE2b-512 digest of the content of the commit.
     ensures id { IfOk result (λ saved. saved.0 ≡ blake2b (commit_content commit)) }
+    // The fields of a stored commit fit their types.
     ensures value { OnOk result (IsCommit commit) }
+    // A connection that is opened on the closed files finds the old entries and that of the commit.
     ensures logged { IfOk result (λ saved. (entries : List LogEntryValue)
         → WasNewOrContains over_files conn entries
         → HasWith (FilesContain D.Disk saved.1) entries (entry_of (commit_object commit))) }
+    // After a crash the database in the closed files has these entries too.
     ensures crash { IfOk result (λ saved. (entries : List LogEntryValue)
         → WasNewOrContains over_files conn entries
         → HasWith (CrashContains D.Disk saved.1) entries (entry_of (commit_object commit))) }
+    // The database file by itself has these entries too, now and after a crash.
     ensures backup { IfOk result (λ saved. (entries : List LogEntryValue)
         → WasNewOrContains over_files conn entries
         → HasWith (IsBackup D.Disk saved.1) entries (entry_of (commit_object commit))) }
@@ -148,6 +162,7 @@ pub fn load_commit<D: Disk + Drop>(
 ) -> Result<(Commit, Connection<FileStore<D>>), OpenError>
     requires log { IsTrue (D.Disk.is_usable files.log) }
     requires db { IsTrue (D.Disk.is_usable files.db) }
+    // If the files have the row of a commit, reading its digest returns this commit.
     ensures value { IfOk result (λ loaded. HasCleanDisk (file_state loaded.1)
         → (entries : List LogEntryValue) → FilesContain D.Disk files entries
         → (commit : CommitValue) → IsCommit commit
@@ -173,6 +188,7 @@ pub fn reread_commit<D: Disk + Drop>(
     commit: Commit,
     options: Options,
 ) -> Result<(Commit, Connection<FileStore<D>>), OpenError>
+    // The commit that is read is the one that was written.
     ensures commit { IfOk result (λ reread. HasCleanDisk (file_state reread.1)
         → (entries : List LogEntryValue) → WasNewOrContains over_files conn entries
         → reread.0 ≡ commit) }
@@ -194,9 +210,11 @@ pub fn check_objects<S: Alter>(
     alloc: Global,
     conn: Connection<S>,
 ) -> (Result<(), OpenError>, Connection<S>)
+    // After a success the ID of each entry is the digest of its object.
     ensures ok { HasCleanDisk (state S.Store result.1) → OnOk result.0
         ((entries : List LogEntryValue) → WasNewOrContains S.Store conn entries
         → All HasDigest entries) }
+    // An error names a fault that the entries have.
     ensures error { HasCleanDisk (state S.Store conn) → HasCleanDisk (state S.Store result.1)
         → IfErr result.0 (λ e. (entries : List LogEntryValue)
         → WasNewOrContains S.Store conn entries → HasFault entries e) }
@@ -217,9 +235,11 @@ pub fn open_damaged<S: Alter>(
     alloc: Global,
     conn: Connection<S>,
 ) -> Result<Mirrored<SqliteLog<S>>, (OpenError, Connection<S>)>
+    // The backend has the objects of the first entries, and none of them is skipped.
     ensures first { IfOk result (λ store. HasCleanDisk (state S.Store store.log.conn)
         → (entries : List LogEntryValue) → HasOnlyRowsOf (state S.Store conn) entries
         → (count : ℕ) × IsReplay (take count entries) store.backend) }
+    // If SQLite counted all entries, the backend has the objects of all.
     ensures all { IfOk result (λ store. HasCleanDisk (state S.Store store.log.conn)
         → (entries : List LogEntryValue) → CountsRowsOf (state S.Store conn) entries
         → IsReplay entries store.backend) }

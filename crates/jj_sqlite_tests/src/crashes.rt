@@ -1,4 +1,4 @@
-//! Proved callers: what a crash leaves of the commits that were written.
+//! Proved callers: the commits that a store has after a crash.
 ghost use Rattle.std.specs.Prelude.{◌⊎◌, ℕ, List, take, map, IfOk, OnOk, OnErr};
 ghost use Rattle.sqlite_wal.specs.Recovery.{Image};
 ghost use Rattle.sqlite.specs.Files.{over_files};
@@ -51,11 +51,15 @@ pub fn write_files<S: Alter>(
     store: &mut Mirrored<SqliteLog<S>>,
     files: &[Vec<u8>],
 ) -> BackendResult<()>
+    // After a success the log has its old entries and then those of the files that it lacked, each
+    // once, and the backend is their replay.
     ensures ok { OnOk result ((entries : List LogEntryValue)
         → StoresEntries S.Store store.old.log.conn entries → IsReplay entries store.old.backend
         → WithEntries (λ all. StoresEntries S.Store store.new.log.conn all
         × IsReplay all store.new.backend)
         entries (map (λ file. file_entry file.items) files.now)) }
+    // After an error the log has its old entries and then those of some first files that it lacked,
+    // each once.
     ensures err { OnErr result ((entries : List LogEntryValue)
         → StoresEntries S.Store store.old.log.conn entries → IsReplay entries store.old.backend
         → (count : ℕ) × WithEntries (StoresEntries S.Store store.new.log.conn) entries
@@ -70,6 +74,8 @@ pub fn write_files<S: Alter>(
 /// Gives up a connection without closing its files. Whoever opens what a crash at this moment may
 /// leave finds all entries of the log, and at most one more, whose write failed.
 pub fn abandon<D: Disk + Drop>(conn: Connection<FileStore<D>>) -> FileStore<D>
+    // Each content of the files that a crash may leave is the database of a log with these entries,
+    // and at most one more, whose write failed.
     ensures { (entries : List LogEntryValue) → StoresEntries over_files conn entries
         → IsClean (view result) → CrashLeaves result entries }
 {
@@ -82,6 +88,8 @@ pub fn open_after_crash<S: Alter>(
     alloc: Global,
     conn: Connection<S>,
 ) -> Result<Mirrored<SqliteLog<S>>, (OpenError, Connection<S>)>
+    // On a disk that returns what it stored, the backend has the objects of these entries, and of
+    // at most one more, whose write failed.
     ensures { IfOk result (λ store. HasCleanDisk (state S.Store store.log.conn)
         → (image : Image) → FindsIn image (state S.Store conn) → Opens (state S.Store conn)
         → IsLive (state S.Store conn) → (entries : List LogEntryValue)

@@ -1,4 +1,4 @@
--- In the greatest child-first order each node is the greatest head of the nodes from it on.
+-- In the greatest child-first order each node is the greatest head of the suffix that it begins.
 use Rattle.std.proofs.Common.{◌≡◌, ◌≢◌, ◌⊎◌, inl, inr, ⊎_elim, ℕ, zero, suc, ◌<◌, List, [], ◌∷◌, ◌++◌, length, get_or, refl, sym, ◌∙◌, ap, subst, arith}
 use Rattle.std.specs.Prelude.{AllPairs}
 use Rattle.std.specs.List.{Contains}
@@ -126,7 +126,7 @@ module _ {A : Type 0} where
   distinct_from (z ∷ xs) none (suc i) (suc j) d before within same =
       distinct_from xs (λ x h. none x (before_there z xs x x h)) i j d (omega (arith, before)) (omega (arith, within)) same
 
-  -- each node is the greatest head of the nodes from it on
+  -- each node is the greatest head of the suffix that it begins
   pub heads_first : (IsBelow : A → A → Type 0) (g : NodeGraph A) (starts order : List A) → IsGreatestChildFirstOrder IsBelow g starts order
       → (prefix rest : List A) (a b : A) → order ≡ prefix ++ a ∷ rest → IsMaximalNode g (Contains (a ∷ rest)) b → b ≢ a → IsBelow b a
   heads_first IsBelow g starts order k prefix rest a b split (inside, head) differ =

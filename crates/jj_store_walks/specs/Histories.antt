@@ -37,13 +37,13 @@ module _ (store : Objects) where
   abbrev pub InEachHistory : (Parents → Type 0) → Type 0
   InEachHistory P = (parents : Parents) → Completes parents → P parents
 
-  -- where the ids reach no cycle: exactly the ids that are no proper ancestor of another one
+  -- exactly the ids that are no proper ancestor of another one, if the ids reach no cycle
   abbrev pub AreHeadCommits : List (List ℕ) → List (List ℕ) → Type 0
   AreHeadCommits ids heads = InEachHistory (λ parents. ReachesNoCycle parents ids
       → AreMaximalNodes parents (Contains ids) heads)
 
-  -- where no common ancestor is on a cycle: exactly the common ancestors of both sets that are no
-  -- proper ancestor of another one, as the store has them
+  -- exactly the common ancestors of both sets that are no proper ancestor of another one, as the
+  -- store has them, if no common ancestor is on a cycle
   abbrev pub AreMergeBases : List (List ℕ) → List (List ℕ) → List ReadCommit → Type 0
   AreMergeBases set1 set2 bases = InEachHistory (λ parents. HasNoCommonNodeCycle parents set1 set2
       → AreMaximalNodes parents (IsCommonNode parents set1 set2) (map id_of bases)
@@ -82,7 +82,7 @@ module _ (store : Objects) where
     pub reached : InEachHistory (λ parents. ReachesNode parents ids id)
     pub read : IsReadError may_fail store e id
 
-  -- or it is out of memory
+  -- `read_commit` may return this error for an ancestor of the ids, or memory ran out
   abbrev pub IsErrorBelow : (BackendError → Type 0) → List (List ℕ) → BackendError → Type 0
   IsErrorBelow may_fail ids e = (e ≡ Memory) ⊎ IsReadErrorBelow may_fail ids e
 

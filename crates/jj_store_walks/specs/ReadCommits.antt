@@ -10,6 +10,7 @@ use Rattle.jj_backend.specs.declared.backend.errors.BackendError.{BackendError}
 use Rattle.jj_backend.specs.declared.backend.errors.BackendError.TheVariants.{Memory}
 use Rattle.jj_store_walks.specs.declared.read_commit.ReadCommit.{ReadCommit}
 
+-- the id of a commit that was read
 abbrev pub id_of : ReadCommit → List ℕ
 id_of c = c.id
 
@@ -22,7 +23,7 @@ module _ (may_fail : BackendError → Type 0) (store : Objects) where
   abbrev pub IsReadError : BackendError → List ℕ → Type 0
   IsReadError e id = IsRead {R = CommitValue} may_fail (store.commits id) (λ c. c) (Err e)
 
-  -- or it is out of memory
+  -- `read_commit` may return this error for this id, or memory ran out
   abbrev pub IsReadFailure : BackendError → List ℕ → Type 0
   IsReadFailure e id = (e ≡ Memory) ⊎ IsReadError e id
 

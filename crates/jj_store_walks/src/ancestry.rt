@@ -16,6 +16,7 @@ pub fn ancestors<B: Backend>(
     store: &B,
     ids: &[CommitId],
 ) -> Result<Vec<BackendResult<ReadCommit>>, AllocError>
+    // The results are the ancestors that can be read, each once, and the error of each failed read.
     ensures { IfOk result (λ found. AreFoundAncestors (B.objects store.now) (B.may_fail store.now)
         ids.now found.items) }
 {

@@ -21,7 +21,7 @@ pub fn merge_bases<B: Backend>(
     // sets that are no proper ancestor of another one, as the store has them.
     ensures bases { IfOk result (λ bases. AreMergeBases (B.objects store.now) set1.now set2.now
         bases.items) }
-    // An error but `Memory` is one that a read of an ancestor of a given commit may return.
+    // An error but `Memory` is one that a read of an ancestor of one of the commits may return.
     ensures error { IfFails result (IsErrorBelow (B.objects store.now) (B.may_fail store.now)
         (set1.now ++ set2.now)) }
 {

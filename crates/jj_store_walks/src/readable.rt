@@ -42,6 +42,8 @@ pub fn readable_ancestors<B: Backend>(
     store: &B,
     ids: &[CommitId],
 ) -> Result<ReadableAncestors, AllocError>
+    // The commits are the ancestors that can be read, each once, and the errors are those of the
+    // reads that failed.
     ensures { IfOk result (λ found. AreReadableAncestors (B.objects store.now)
         (B.may_fail store.now) ids.now found.commits.items found.errors.items) }
 {

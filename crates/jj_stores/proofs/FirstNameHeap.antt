@@ -310,7 +310,7 @@ module _ {R : Type 0} (remotes : Named (Named R)) where
     ascending = All-set (λ r. IsAscending r.1) remotes remote_index new up are.ascending;
   }
 
-  -- the invariant holds again once the top is replaced by the next first name of its remote
+  -- replacing the top by the next first name of its remote restores the invariant
   pub firsts_left : {X : Type 0} (shows : X → List ℕ × ℕ) (xs ys : List X) (x : X) (new there : List ℕ × Named R) (now : List (List ℕ × ℕ))
       → AreFirstNames remotes (map shows xs) → 0 < length xs → x ≡ get_or xs 0 x → IsPermutation xs (x ∷ ys)
       → there ≡ get_or (set remotes (shows x).1 new) (shows x).1 there

@@ -42,6 +42,7 @@ module _ {R : Type 0} where
     pub none_before : remotes_with before name ≡ []
     pub ascending : IsAscending ((name, found.1) ∷ others)
 
+  -- a remote ref with its name and the name of its remote
   abbrev pub symbol_ref_of : RemoteRefSymbol × Bor R → (List ℕ × List ℕ) × R
   symbol_ref_of item = ((name_bytes item.0.name, name_bytes item.0.remote), item.1.now)
 

@@ -79,8 +79,9 @@ IsReachableView operations heads view_id = (id : List ℕ) × (operation : Opera
     × IsReachable operations heads id × (operations id ≡ Some operation)
     × (operation.view_id ≡ view_id)
 
--- ---- times of writes, and what garbage collection keeps
+-- ---- times of writes, and the values that survive garbage collection
 
+-- the time of the last write of each value, by its id
 abbrev pub Times : Type 0
 Times = ById MillisSinceEpoch
 

@@ -21,6 +21,7 @@ use Rattle.jj_stores.specs.declared.op_store.operation.TimestampRange.{Timestamp
 
 -- ---- time ranges
 
+-- equality of ranges of times: the same start and end
 abbrev pub range_eq : TimestampRange → TimestampRange → Bool
 range_eq = eq_of_both (on (λ r. r.start) timestamp_eq) (on (λ r. r.end) timestamp_eq)
 
@@ -32,10 +33,12 @@ range_lawful = both_lawful (on_lawful (λ r. r.start) timestamp_lawful)
 
 -- `A` is the allocator of the strings and lists
 module _ {A : Type 0} where
+  -- equality of strings by their bytes
   abbrev pub text_eq : String A → String A → Bool
   text_eq = on string_bytes bytes_eq
 
 module _ {A : Type 0} where
+  -- equality of attributes: the same keys with the same values, in order
   abbrev pub attributes_eq : List (String A × String A) → List (String A × String A) → Bool
   attributes_eq = pointwise (eq_of_both (on (λ e. e.0) text_eq) (on (λ e. e.1) text_eq))
 
@@ -44,6 +47,7 @@ module _ {A : Type 0} where
       (on_lawful (λ e. e.0) (on_lawful string_bytes text_lawful))
       (on_lawful (λ e. e.1) (on_lawful string_bytes text_lawful))))
 
+-- equality of the metadata of operations: all fields are equal
 abbrev pub metadata_eq : OperationMetadata → OperationMetadata → Bool
 metadata_eq =
     eq_of_both (on (λ m. m.time) range_eq)
@@ -67,6 +71,7 @@ metadata_lawful =
 -- ---- operations
 
 module _ {A : Type 0} where
+  -- equality of maps of predecessors: the same keys with the same lists
   abbrev pub predecessors_eq : BTreeMap (List ℕ) (Vec (List ℕ) A)
       → BTreeMap (List ℕ) (Vec (List ℕ) A) → Bool
   predecessors_eq = on (λ m. m.entries) (pointwise
@@ -77,6 +82,7 @@ module _ {A : Type 0} where
       (list_lawful (both_lawful (on_lawful (λ e. e.0) bytes_lawful)
       (on_lawful (λ e. e.1) (on_lawful (λ ids. ids.items) (list_lawful bytes_lawful))))))
 
+-- equality of operations: all fields are equal
 abbrev pub operation_eq : Operation → Operation → Bool
 operation_eq =
     eq_of_both (on (λ o. o.view_id) bytes_eq)

@@ -99,6 +99,7 @@ operation_content o = links_content o ++ details_content o
 abbrev pub beginning : Timestamp
 beginning = record { timestamp = record { 0 = pos 0 }; tz_offset = pos 0 }
 
+-- the operation is the root operation: it has this view and no parents
 pub record IsRootOperation (view_id : List ℕ) (o : Operation) : Type 0 where
   pub view : o.view_id ≡ view_id
   pub parents : o.parents.items ≡ []

@@ -17,6 +17,7 @@ use Rattle.jj_stores.specs.declared.op_store.ref_target.RemoteRef.{RemoteRef}
 use Rattle.jj_stores.specs.declared.op_store.ref_target.RemoteRefState.{RemoteRefState}
 use Rattle.jj_stores.specs.declared.op_store.ref_target.RemoteRefState.TheVariants.{New, Tracked}
 
+-- equality of targets: the same terms in the same order
 abbrev pub target_eq : Target → Target → Bool
 target_eq = pointwise (option_eq bytes_eq)
 
@@ -41,6 +42,7 @@ equal_states Tracked New s t p q h = let same : 1 ≡ 0 =
 pub state_lawful : IsLawful (λ _. Unit {0}) ghosts.eq state_content
 state_lawful = record { same = same_content; decides = equal_states }
 
+-- equality of remote refs: the same target and state
 abbrev pub remote_ref_eq : RemoteRef → RemoteRef → Bool
 remote_ref_eq = eq_of_both (on (λ r. r.target) target_eq) (on (λ r. r.state) ghosts.eq)
 

@@ -17,6 +17,7 @@ Target = List (Option (List ℕ))
 abbrev pub absent_target : Target
 absent_target = None ∷ []
 
+-- the remote ref without a target, which is not tracked
 abbrev pub absent_ref : RemoteRef
 absent_ref = record { target = absent_target; state = New }
 
@@ -25,6 +26,7 @@ abbrev pub tracked_of : RemoteRefState → Target → Option Target
 tracked_of New target = None
 tracked_of Tracked target = Some target
 
+-- the target of a remote ref if it is tracked
 abbrev pub tracked_target : RemoteRef → Option Target
 tracked_target remote = tracked_of remote.state remote.target
 

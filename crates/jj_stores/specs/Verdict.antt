@@ -10,11 +10,13 @@ pub record Verdict : Type 0 where
   pub key : Option (List ℕ)
   pub display : Option (List ℕ)
 
+-- the status is Unknown
 abbrev pub is_unknown : SigStatus → Bool
 is_unknown Unknown = true
 is_unknown Good = false
 is_unknown Bad = false
 
+-- the verification without a decisive result: Unknown, with no key and no name to display
 abbrev pub unknown_verdict : Verdict
 unknown_verdict = record { status = Unknown; key = None; display = None }
 

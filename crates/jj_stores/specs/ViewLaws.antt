@@ -18,6 +18,7 @@ use Rattle.jj_stores.specs.declared.op_store.view.View.{View}
 -- ---- association lists from names
 
 module _ {V : Type 0} where
+  -- equality of lists of named values: the same names with equal values, in order
   abbrev pub named_eq : (V → V → Bool) → List (List ℕ × V) → List (List ℕ × V) → Bool
   named_eq eq = pointwise (eq_of_both (on (λ e. e.0) bytes_eq) (on (λ e. e.1) eq))
 
@@ -35,6 +36,7 @@ target_equiv = lists_equiv (options_equiv nat_list_eq_equiv)
 
 -- ---- remote views
 
+-- equality of remote views: the same bookmarks and tags
 abbrev pub remote_view_eq : RemoteView → RemoteView → Bool
 remote_view_eq = eq_of_both (on (λ v. v.bookmarks.entries) (named_eq remote_ref_eq))
     (on (λ v. v.tags.entries) (named_eq remote_ref_eq))
@@ -46,6 +48,7 @@ remote_view_lawful = both_lawful (on_lawful (λ v. v.bookmarks.entries)
 
 -- ---- views
 
+-- equality of views: all fields are equal
 abbrev pub view_eq : View → View → Bool
 view_eq =
     eq_of_both (on (λ v. v.head_ids) (hash_set_eq bytes_eq))

@@ -51,6 +51,7 @@ IsView view = IsLocal view
     × ((AreNamed IsRemoteView view.remote_views.entries × AreNamed IsTarget view.git_refs.entries)
     × (AreNamed IsTarget view.git_heads.entries × AreNamed AreBytes view.wc_commit_ids.entries))
 
+-- the content of a view: its fields in the order of their declaration
 abbrev pub view_content : View → List ℕ
 view_content view = local_content view
     ++ ((named_content remote_view_content view.remote_views.entries
@@ -60,6 +61,7 @@ view_content view = local_content view
 
 -- ---- the root view: the root commit is its only head, and it has no refs and no workspaces
 
+-- the view of the root operation: its only head is the root commit, and it has no refs
 pub record IsRootView (root : List ℕ) (view : View) : Type 0 where
   pub heads : view.head_ids.keys ≡ root ∷ []
   pub local_bookmarks : view.local_bookmarks.entries ≡ []

@@ -403,7 +403,9 @@ impl Signer {
             (λ e. (e ≡ SignError.Memory) ⊎ IsFirstDecisive (λ b. reads b signature.now)
             (λ b. may_verify b «data».now signature.now)
             (backends self.old.main self.old.others.items) (Some (Err e))) }
+        // After an error the cache is unchanged.
         ensures error { OnErr result (cache_entries self.new ≡ cache_entries self.old) }
+        // The cache has at most as many entries as its capacity.
         ensures within_capacity { length (cache_entries self.new) ≤ capacity_of self.new }
     {
         let _remembered = self.cache.len();

@@ -1,4 +1,4 @@
--- Values that stay stored across writes and garbage collection, and what their reads return.
+-- Values that stay stored across writes and garbage collection, and the results of their reads.
 use Rattle.std.proofs.Common.{◌≡◌, inl, inr, ℕ, Bool, true, false, cond, List, [], ◌∷◌, Option, Some, None, Result, Ok, Err, refl, sym, ap, subst, ◌∙◌}
 use Rattle.std.proofs.lemmas.List.Elements.{Contains-append_right, Contains-push}
 use Rattle.std.specs.Bool.{MatchBool}
@@ -30,7 +30,7 @@ module _ {V : Type 0} (eq : V → V → Bool) (old new : ById V) (id : List ℕ)
           elim added.2 [ inl none ↦ absurd cc | inr stays ↦ sym stays ∙ at ]
       by_test false other_id = there
 
--- garbage collection keeps what is to be kept
+-- garbage collection does not remove a value that is in use
 pub kept_by_gc : {V : Type 0} (IsKept : List ℕ → Type 0) (old new : ById V) → RemovesOthers IsKept old new → (id : List ℕ) → IsKept id → new id ≡ old id
 kept_by_gc IsKept old new removed id kept = elim (removed id) [ inl same ↦ same | inr gone ↦ absurd (gone.1 kept) ]
 

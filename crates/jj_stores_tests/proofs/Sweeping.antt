@@ -36,7 +36,7 @@ contains_cons x xs y c = by_part (Contains-append_cases (x ∷ []) xs y c)
 -- ---- the ids of the garbage
 
 module _ (kept : List ℕ → Bool) where
-  -- of the ids so far, those that are not kept
+  -- the removed ones of the ids so far
   pub record Swept (done ids : List (List ℕ)) : Type 0 where
     pub sound : (id : List ℕ) → Contains ids id → Contains done id × (kept id ≡ false)
     pub complete : (id : List ℕ) → Contains done id → kept id ≡ false → Contains ids id
@@ -158,7 +158,7 @@ module _ {V : Type 0} where
     pub no_others : LacksOthers IsKept new
     no_others id = (collects id).1
 
--- a value that is kept stays
+-- a value that is not removed is unchanged
 pub kept_stays : {V : Type 0} (IsKept : List ℕ → Type 0) (old new : ById V) (id : List ℕ) → RemovesOthers IsKept old new → IsKept id → IsSome (old id) → IsSome (new id)
 kept_stays IsKept old new id removes is some = elim (removes id) [
   | inl same ↦ subst IsSome (sym same) some

@@ -1,5 +1,5 @@
 //! Garbage collection by mark and sweep: a depth-first search marks the operations and views that
-//! are reachable, and what is neither marked nor new is removed.
+//! are reachable, and those that are neither marked nor new are removed.
 ghost use Rattle.std.specs.Prelude.{◌≡◌, ◌↔◌, ◌||◌, ◌++◌, ◌∷◌, ℕ, false, true, List, Contains, None, IfOk, OnOk, IsSome};
 ghost use Rattle.jj_stores.specs.OpStores.{IsReachable, IsReachableView, is_newer as newer};
 ghost use Rattle.jj_stores_tests.specs.MemoryStores.{IsVisit, by_id, has_id, is_kept as kept};

@@ -174,7 +174,7 @@ impl MemoryOpStore {
         })
     }
 
-    /// Sets the time of the writes from now on.
+    /// Sets the time of later writes.
     pub fn set_time(&mut self, now: MillisSinceEpoch)
         ensures { self.new ≡ record self.old { now = now } }
     {

@@ -95,7 +95,7 @@ fn is_view_missing(alloc: Global, store: &MemoryOpStore, id: &ViewId) -> OpStore
     }
 }
 
-// Of two operations that nothing reaches, the newer one stays until its time is no longer kept.
+// Of two operations that nothing reaches, the newer one stays until its time is too old.
 fn collects_operations_in(alloc: Global, store: &mut MemoryOpStore) -> OpStoreResult<bool> {
     let old = store.write_operation(alloc, &operation_with_view(alloc, 3)?)?;
     store.set_time(MillisSinceEpoch(5));

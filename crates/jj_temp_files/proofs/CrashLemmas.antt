@@ -43,7 +43,7 @@ unchanged_now moment left_since a path = record {
   each = λ since left before at_end. inl at_end;
 }
 
--- a step that leaves nothing else may be said to leave more
+-- a step that leaves only these states also satisfies a weaker bound
 pub unchanged_more : {S : Type 0} (moment : S → ℕ) (left_since : LeftSince S) (a b : S)
     (path : List ℕ) (Q : Option (List ℕ) → Type 0) → Unchanged moment left_since a b path
     → Changes moment left_since a b path Q

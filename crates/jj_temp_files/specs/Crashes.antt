@@ -34,7 +34,7 @@ abbrev pub LeavesOldOr : {S : Type 0} → (S → ℕ) → LeftSince S → (Optio
 LeavesOldOr moment left_since before old new path bytes = (left : Option (List ℕ))
     → left_since new (moment old) path left → before left ⊎ (left ≡ Some bytes)
 
--- a prefix of the piece was appended; after an error, nothing is said
+-- a prefix of the piece was appended; after an error, the content is arbitrary
 abbrev pub AddsWritten : List ℕ → List ℕ → Result ℕ Error → List ℕ → Type 0
 AddsWritten old piece (Ok count) new = new ≡ old ++ take count piece
 AddsWritten old piece (Err error) new = ⊤

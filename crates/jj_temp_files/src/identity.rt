@@ -20,6 +20,7 @@ impl FileIdentity {
     /// Returns the identity of an open file. If it was opened through a symbolic link, this is the
     /// file that the link leads to.
     pub fn from_file<A: FileAccess>(files: &A, file: &A::File) -> io::Result<FileIdentity>
+        // The identity is that of the status of the open file, or the error of reading it.
         ensures { IsIdentityOf (A.may_stat files.now file.now) result }
     {
         let status = files.status(file)?;
@@ -29,12 +30,14 @@ impl FileIdentity {
         })
     }
 
-    /// Returns the identity of what is at a path: of the link itself where it is a symbolic link.
+    /// Returns the identity of the file at a path: of the link itself if it is a symbolic link.
     pub fn from_symlink_path<A: FileAccess>(
         alloc: Global,
         files: &A,
         path: &str,
     ) -> Result<FileIdentity, PathError>
+        // The identity is that of the status of the path, without following a link, or the error
+        // with the path.
         ensures { IsIdentityAt (A.may_stat_link files.now path.now) path.now result }
     {
         let status = files.link_status(path).context(alloc, path)?;

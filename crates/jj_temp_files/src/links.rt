@@ -22,6 +22,7 @@ pub fn symlink_dir<A: FileAccess>(
     original: &str,
     link: &str,
 ) -> Result<(), PathError>
+    // Creating the link was tried once, and an error is returned with `link`.
     ensures { LinksAt A.may_link original.now link.now files.old result files.new }
 {
     files.symlink(original, link).context(alloc, link)
@@ -34,6 +35,7 @@ pub fn symlink_file<A: FileAccess>(
     original: &str,
     link: &str,
 ) -> Result<(), PathError>
+    // Creating the link was tried once, and an error is returned with `link`.
     ensures { LinksAt A.may_link original.now link.now files.old result files.new }
 {
     files.symlink(original, link).context(alloc, link)
@@ -48,7 +50,7 @@ pub fn check_symlink_support() -> io::Result<bool>
 
 /// Returns whether files in a directory keep their executable bit: flips that of a new file and
 /// reads it back. Returns false where permission is denied, or where the bit did not change. The
-/// new file is removed before it is tested, so that nothing stays behind. An error contains the
+/// new file is removed before it is tested, so that no file remains. An error contains the
 /// path of the new file, or `dir`.
 pub fn check_executable_bit_support<A: FileAccess>(
     alloc: Global,

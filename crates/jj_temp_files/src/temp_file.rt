@@ -92,6 +92,8 @@ impl<F: Drop> NamedTempFile<F> {
         dir: &str,
         names: &mut TempNames,
     ) -> Result<NamedTempFile<F>, PathError>
+        // Names that are taken were passed over, and then the file was created at the next one, or
+        // the error of that is returned with its path.
         ensures { CreatesTempFile A.may_create dir.now names.old files.old result
             names.new files.new }
     {
@@ -161,6 +163,7 @@ impl<F: Drop> NamedTempFile<F> {
         alloc: Global,
         files: &mut A,
     ) -> Result<(), PathError>
+        // Removing the temporary path was tried once, and an error is returned with it.
         ensures { RemovesFile A.may_remove (string_bytes self.path) files.old result files.new }
     {
         let NamedTempFile { file, path } = self;
@@ -177,6 +180,8 @@ impl<F: Drop> NamedTempFile<F> {
         alloc: Global,
         files: &mut A,
     ) -> Result<F, PathError>
+        // Removing the temporary path was tried once; the open file is returned, or the error with
+        // the path.
         ensures { UnlinksFile A.may_remove self files.old result files.new }
     {
         let NamedTempFile { file, path } = self;
@@ -251,6 +256,8 @@ pub fn persist_content_addressed_temp_file<A: FileAccess>(
     temp_file: NamedTempFile<A::File>,
     new_path: &str,
 ) -> Result<A::File, PathError>
+    // The data was synced and then the path renamed; if one of these failed, removing the temporary
+    // file was tried, and the error is returned with the new path.
     ensures { PersistsFile A.may_sync A.may_rename A.may_remove temp_file new_path.now
         files.old result files.new }
 {

@@ -26,8 +26,8 @@ abbrev pub is_synced_at : List Edit → List ℕ → Bool
 is_synced_at [] path = true
 is_synced_at (edit ∷ older) path = cond (is_at path edit) edit.is_synced (is_synced_at older path)
 
--- A crash leaves a synced file and no file as they are. It leaves anything in place of the data
--- that was not synced.
+-- A crash leaves a synced file and no file as they are. Data that was not synced is arbitrary after
+-- a crash.
 abbrev pub Leaves : Option (List ℕ) → Bool → Option (List ℕ) → Type 0
 Leaves None synced left = left ≡ None
 Leaves (Some bytes) true left = left ≡ Some bytes

@@ -12,7 +12,7 @@ abbrev pub IsAbsentOrWhole : {S : Type 0} → (S → List ℕ → Option (List �
 IsAbsentOrWhole may_leave files path bytes =
     (left : Option (List ℕ)) → may_leave files path left → IsWholeOrAbsent bytes left
 
--- after a crash at any moment from then on, the path has no file, or one with these bytes
+-- after a crash at any later moment, the path has no file, or one with these bytes
 abbrev pub StaysAbsentOrWhole : {S : Type 0} → (S → ℕ) → LeftSince S → S → S → List ℕ → List ℕ
     → Type 0
 StaysAbsentOrWhole moment left_since old new path bytes = (left : Option (List ℕ))

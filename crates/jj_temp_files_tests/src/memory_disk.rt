@@ -1,5 +1,5 @@
-//! A file system in memory as a log of edits, with the outcomes of a crash: it shows that the laws
-//! of `CrashSafe` hold together, and its calls can stop as those of a killed process.
+//! A file system in memory as a log of edits, with the outcomes of a crash: it proves that the
+//! laws of `CrashSafe` are consistent, and its calls can stop as those of a killed process.
 ghost use Rattle.std.specs.Prelude.{◌≡◌, ◌≢◌, true, [], Some, None, IfOk, MatchOption, OnOk, OnErr, cond};
 ghost use Rattle.jj_temp_files_tests.specs.DiskLaws.{contents, created_at, creates, left_since, may_leave, moment_of, only_now, removes, renames, syncs, writes, written_to};
 ghost use Rattle.jj_temp_files_tests.specs.Disk.{Adds, Copies, HaveSameEdits, MayCreate, MayRemove, MayRename, MaySync, MayWrite, contents_of, file_after, is_synced_at};

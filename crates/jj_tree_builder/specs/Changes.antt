@@ -1,4 +1,4 @@
--- Trees as maps from paths to files, and what changes make of them.
+-- Trees as maps from paths to files, and the effect of changes on them.
 -- Cited by contracts of public items: Change, Files, IsGrown, changed, files_at.
 use Rattle.std.specs.Prelude.{◌≡◌, ℕ, Bool, if◌then◌else◌, List, [], ◌∷◌, Option, Some, None, is_some}
 use Rattle.std.specs.Str.{bytes_eq}

@@ -391,8 +391,8 @@ impl TreeBuilder {
         }
     }
 
-    /// Puts a value at a path, in place of what is at the path and below it, and of a file above
-    /// it.
+    /// Sets the value at a path. It replaces the value at the path and all values below it, and a
+    /// file above it.
     pub fn set(&mut self, path: RepoPathBuf, value: TreeValue) -> Result<(), AllocError>
         ensures set { OnOk result (self.new ≡ record self.old {
           changes = self.old.changes ++ (path, Some value) ∷ [];
@@ -429,6 +429,7 @@ impl TreeBuilder {
             ≡ changed trees self.changes (files_at trees (Some (Directory self.base))) place) }
         // No object but trees was added, and none has changed.
         ensures objects { AddsTrees (B.objects backend.old) (B.objects backend.new) }
+        // The values of the backend that no write changes are unchanged.
         ensures fixed { B.fixed backend.new ≡ B.fixed backend.old }
     {
         let TreeBuilder { base, changes } = self;

@@ -4,7 +4,7 @@ use Rattle.jj_paths.specs.Paths.{Path}
 use Rattle.jj_trees.specs.DirectoryMerges.{IsListOf}
 
 -- exactly the entries for which Holds are appended, in order of their paths, each after the path of
--- the directory; IsRead holds for each path
+-- the directory; each path has property IsRead
 pub record IsWalked {E : Type 0} (Holds : Path → E → Type 0) (IsRead : Path → Type 0) (dir : Path)
     (old new : List (Path × E)) : Type 0 where
   pub entries : List (Path × E)

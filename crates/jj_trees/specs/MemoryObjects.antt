@@ -46,6 +46,7 @@ pub record MemoryBackendValue : Type 0 where
   pub trees : ObjectEntries Entries
   pub commits : ObjectEntries CommitValue
 
+-- the objects that the backend has, as maps from ids to values
 abbrev pub objects_of : MemoryBackendValue → Objects
 objects_of backend = record {
   files = by_id backend.files;
@@ -59,6 +60,7 @@ objects_of backend = record {
 abbrev pub digest_length : ℕ
 digest_length = 64
 
+-- the length of change ids in bytes
 abbrev pub change_id_length : ℕ
 change_id_length = 16
 

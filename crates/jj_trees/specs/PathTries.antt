@@ -68,8 +68,8 @@ IsFull node path = (value : TreeValue) × (name : Name) × (value_at node path �
 
 module _ {B : Type 0} (objects : B → Objects)
     (may_fail_to_write : B → Object → BackendError → Type 0) where
-  -- the errors of writing a directory: out of memory, a value with children, a directory at the
-  -- given level, or a failed write
+  -- the errors of writing a directory: out of memory, a value with children, a directory at this
+  -- level, or a failed write
   abbrev pub IsNodeError : B → Node → ℕ → BackendError → Type 0
   IsNodeError old node levels e =
       (e ≡ Memory)

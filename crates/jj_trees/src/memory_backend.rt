@@ -300,8 +300,11 @@ impl Backend for MemoryBackend {
     }
 
     fn read_tree(&self, alloc: Global, _path: RepoPath<'_>, id: &TreeId) -> BackendResult<Tree>
+        // The result is the tree that the backend has under the ID, `ObjectNotFound` only if it has
+        // none, or `Memory`.
         ensures value { IsRead (λ e. e ≡ BackendError.Memory) ((objects_of self.now).trees id.now)
             (λ t. t) result }
+        // `ObjectNotFound` has the type and the ID in hex.
         ensures object { IfErr result (NamesObject (codes "tree") id.now) }
     {
         clone_object(alloc, &self.trees, id)
@@ -313,12 +316,18 @@ impl Backend for MemoryBackend {
         _path: RepoPath<'_>,
         contents: &Tree,
     ) -> BackendResult<TreeId>
+        // The tree was added under the ID returned, which no different tree had; no other object
+        // has changed.
         ensures ok { IfOk result (λ id.
             AddsTree (objects_of self.old) (objects_of self.new) id contents.now) }
+        // The ID is the BLAKE2b-512 digest of the content of the tree, cut to the length of IDs.
         ensures id { IfOk result (λ id.
             id ≡ object_id self.old.id_length (tree_content contents.now)) }
+        // Only trees were added.
         ensures frame { self.new ≡ record self.old { trees = self.new.trees } }
+        // After an error the backend is unchanged.
         ensures unchanged { OnErr result (self.new ≡ self.old) }
+        // An error is `Memory`, or `Other` if a different tree has the ID.
         ensures error { IfErr result (IsStoreError self.old.trees
             (object_id self.old.id_length (tree_content contents.now)) contents.now) }
     {
@@ -344,9 +353,13 @@ impl Backend for MemoryBackend {
     ) -> BackendResult<(CommitId, Commit)>
         ensures ok { IfOk result (λ stored.
             AddsCommit (objects_of self.old) (objects_of self.new) stored.0 stored.1) }
+        // The stored commit is the commit as it was passed, or with a signature of its content if
+        // there is a signer.
         ensures signed { IfOk result (λ stored.
             IsSigned S.may_sign (option_map (λ f. f.now) sign_with.entry) contents stored.1) }
+        // A commit without parents is rejected.
         ensures parents { OnOk result (contents.parents ≢ []) }
+        // The signer is not called for a commit without parents.
         ensures not_called { contents.parents ≡ []
             → signer_after (λ f. f.0.now) sign_with.exit ≡ option_map (λ f. f.now) sign_with.entry }
         ensures id { IfOk result (λ stored.

@@ -245,22 +245,33 @@ pub fn merge_trees_within<B: Backend>(
     same_change: SameChange,
     levels: NonZeroUsize,
 ) -> BackendResult<TreeMerge>
+    // There is one label for each term, or none at all.
     requires { (labels.now ≡ []) ⊎ (length labels.now ≡ length trees.now) }
+    // A path has a resolved value exactly if the merge steps into the directory above it and not
+    // into the path, and the values of the terms there resolve to this one.
     ensures resolved { IfOk result (λ m. (path : Path) (value : TreeValue) →
         Contains m.resolved.items (path, value)
         ↔ IsResolved (B.objects backend.now).trees ⟦<Option<TreeValue> as PartialEq>⟧.eq same_change
         (root_values trees.now) path value) }
+    // A path is in conflict exactly if the merge steps into the directory above it and not into the
+    // path, and the values of the terms there do not resolve; the conflict has the simplified
+    // values with their labels.
     ensures conflicts { IfOk result (λ m.
         (path : Path) (terms : List (Option TreeValue)) (term_labels : List (List ℕ)) →
         Contains m.conflicts.items (path, terms, term_labels)
         ↔ IsConflict (B.objects backend.now).trees ⟦<Option<TreeValue> as PartialEq>⟧.eq same_change
         (root_values trees.now) labels.now path terms term_labels) }
+    // Both lists ascend by path, and no path occurs twice.
     ensures ascending { IfOk result (λ m.
         AllPairs (λ a b. ⟦<RepoPathBuf as Ord>⟧.cmp a.0 b.0 ≡ Ordering.Less) m.resolved.items
         × AllPairs (λ a b. ⟦<RepoPathBuf as Ord>⟧.cmp a.0 b.0 ≡ Ordering.Less) m.conflicts.items) }
+    // After a success, each tree of a term in a directory that the merge steps into was read at its
+    // own path, and none is too deep.
     ensures read { OnOk result (AreRead (B.objects backend.now).trees
         ⟦<Option<TreeValue> as PartialEq>⟧.eq same_change (B.may_read_tree backend.now)
         (root_values trees.now) (non_zero_usize_get levels)) }
+    // An error but `Memory` is that of a failed read of such a tree, `ObjectNotFound` only if it is
+    // missing, or `Unsupported` below `levels`.
     ensures error { IfErr result (IsMergeError (B.objects backend.now).trees
         ⟦<Option<TreeValue> as PartialEq>⟧.eq same_change (B.may_read_tree backend.now)
         (B.may_fail backend.now) (root_values trees.now) (non_zero_usize_get levels)) }
@@ -291,6 +302,7 @@ pub fn merge_trees<B: Backend>(
     labels: &ConflictLabels,
     same_change: SameChange,
 ) -> BackendResult<TreeMerge>
+    // There is one label for each term, or none at all.
     requires { (labels.now ≡ []) ⊎ (length labels.now ≡ length trees.now) }
     // A path has a resolved value exactly if the merge steps into the directory above it and not
     // into the path, and the values of the terms there resolve to this one.

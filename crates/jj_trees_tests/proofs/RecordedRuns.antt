@@ -30,7 +30,7 @@ stored : (trees : ById Entries) (root : List ℕ) (write : TreeWrite) → IsAtPa
 stored trees root (path, entries, Ok id) h = (id, h.0, h.1)
 stored trees root (path, entries, Err e) h = absurd h
 
--- `written` shows the record of a backend, and a write records its path and tree
+-- `written` is the record of a backend, and a write records its path and tree
 module _ {B : Type 0} (written : B → List (Path × Entries)) (may_write : B → Path → Object → Result (List ℕ) BackendError → B → Type 0)
     (records : (old new : B) (path : Path) (object : Object) (r : Result (List ℕ) BackendError) → may_write old path object r new → IfOk r (λ _. Records (written old) path object (written new))) where
   recorded : (trees : ById Entries) (root : List ℕ) (ws : List TreeWrite) (old new : B) → IsRun may_write old ws new → All (λ write. IsAtPath trees root write.0 write) ws

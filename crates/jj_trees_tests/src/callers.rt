@@ -74,17 +74,22 @@ pub fn merge_and_write<B: Backend>(
     trees: &Merge<TreeId>,
     side: usize,
 ) -> BackendResult<TreeId>
+    // The written tree has the outcome at each path: the resolved value, or the term of the chosen
+    // side of a conflict.
     ensures outcomes { IfOk result (λ id. (path : Path) (outcome : Option TreeValue) →
         IsOutcome (B.objects backend.old).trees ⟦<Option<TreeValue> as PartialEq>⟧.eq Accept
         (root_values trees.now) side path outcome
         → stored_at (B.objects backend.new).trees (Some (SubTree id)) path ≡ outcome) }
+    // Each value of the tree is at, above or below the path of such an outcome.
     ensures only { IfOk result (λ id. (path : Path) (value : TreeValue) → path ≢ []
         → stored_at (B.objects backend.new).trees (Some (SubTree id)) path ≡ Some value
         → (written : Path) × (present : TreeValue)
         × IsOutcome (B.objects backend.old).trees ⟦<Option<TreeValue> as PartialEq>⟧.eq Accept
         (root_values trees.now) side written (Some present)
         × (IsBelow written path ⊎ IsBelow path written)) }
+    // No object but trees was added, and none has changed.
     ensures objects { AddsTrees (B.objects backend.old) (B.objects backend.new) }
+    // An error is one of the merge or of writing a tree.
     ensures error { IfErr result (λ e. IsMergeError (B.objects backend.old).trees
         ⟦<Option<TreeValue> as PartialEq>⟧.eq Accept (B.may_read_tree backend.old)
         (B.may_fail backend.old) (root_values trees.now) 1024 e

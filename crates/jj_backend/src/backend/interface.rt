@@ -96,6 +96,7 @@ pub trait Backend {
     /// Returns the id of the root commit, the ancestor of all other commits.
     fn root_commit_id(&self) -> &CommitId
         ensures id { result.now ≡ (fixed self.now).root_commit_id }
+        // The store has a commit with this ID.
         ensures commit { IsSome ((objects self.now).commits result.now) };
 
     /// Returns the change id of the root commit.
@@ -105,6 +106,7 @@ pub trait Backend {
     /// Returns the id of the tree without entries.
     fn empty_tree_id(&self) -> &TreeId
         ensures id { result.now ≡ (fixed self.now).empty_tree_id }
+        // The store has the tree without entries under this ID.
         ensures tree { (objects self.now).trees result.now ≡ Some [] };
 
     /// Returns the number of concurrent calls that suits the backend best.
@@ -113,6 +115,8 @@ pub trait Backend {
 
     /// Reads the content of a file. `ObjectNotFound` means that no file has the id.
     fn read_file(&self, alloc: Global, path: RepoPath<'_>, id: &FileId) -> BackendResult<Vec<u8>>
+        // The result is the file that the store has under the ID, `ObjectNotFound` only if it has
+        // none, or an error that a read may return.
         ensures { IsRead (may_fail self.now) ((objects self.now).files id.now)
             (λ v. v.items) result };
 
@@ -123,11 +127,17 @@ pub trait Backend {
         path: RepoPath<'_>,
         contents: &[u8],
     ) -> BackendResult<FileId>
+        // The file was added under the ID returned, which no different file had; no other object
+        // has changed.
         ensures ok { IfOk result (λ id. AddsFile (objects self.old)
             (objects self.new) id contents.now) }
+        // After an error all objects are unchanged.
         ensures unchanged { OnErr result (objects self.new ≡ objects self.old) }
+        // The values that no write changes, such as the ID of the root commit, are unchanged.
         ensures fixed { fixed self.new ≡ fixed self.old }
+        // An error is one that writing this object may return.
         ensures error { IfErr result (may_fail_to_write self.old (file_object contents.now)) }
+        // The result and the store after the call are ones that the backend allows for this path.
         ensures at_path { may_write self.old (path_of path.entry) (file_object contents.now) result
             self.new };
 
@@ -138,6 +148,8 @@ pub trait Backend {
         path: RepoPath<'_>,
         id: &SymlinkId,
     ) -> BackendResult<String>
+        // The result is the link target that the store has under the ID, `ObjectNotFound` only if
+        // it has none, or an error that a read may return.
         ensures { IsRead (may_fail self.now)
             ((objects self.now).symlinks id.now) string_bytes result };
 
@@ -148,28 +160,42 @@ pub trait Backend {
         path: RepoPath<'_>,
         target: &str,
     ) -> BackendResult<SymlinkId>
+        // The link target was added under the ID returned, which no different link target had; no
+        // other object has changed.
         ensures ok { IfOk result (λ id. AddsSymlink (objects self.old)
             (objects self.new) id target.now) }
+        // After an error all objects are unchanged.
         ensures unchanged { OnErr result (objects self.new ≡ objects self.old) }
+        // The values that no write changes, such as the ID of the root commit, are unchanged.
         ensures fixed { fixed self.new ≡ fixed self.old }
+        // An error is one that writing this object may return.
         ensures error { IfErr result (may_fail_to_write self.old (symlink_object target.now)) }
+        // The result and the store after the call are ones that the backend allows for this path.
         ensures at_path { may_write self.old (path_of path.entry) (symlink_object target.now) result
             self.new };
 
     /// Reads a copy history. `ObjectNotFound` means that no copy history has the id.
     fn read_copy(&self, alloc: Global, id: &CopyId) -> BackendResult<CopyHistory>
+        // The result is the copy history that the store has under the ID, `ObjectNotFound` only if
+        // it has none, or an error that a read may return.
         ensures { IsRead (may_fail self.now) ((objects self.now).copies id.now) (λ c. c) result };
 
     /// Stores a copy history and returns its id.
     fn write_copy(&mut self, alloc: Global, copy: &CopyHistory) -> BackendResult<CopyId>
+        // The copy history was added under the ID returned, which no different copy history had; no
+        // other object has changed.
         ensures ok { IfOk result (λ id. AddsCopy (objects self.old)
             (objects self.new) id copy.now) }
+        // After an error all objects are unchanged.
         ensures unchanged { OnErr result (objects self.new ≡ objects self.old) }
+        // The values that no write changes, such as the ID of the root commit, are unchanged.
         ensures fixed { fixed self.new ≡ fixed self.old }
+        // An error is one that writing this object may return.
         ensures error { IfErr result (may_fail_to_write self.old (copy_object copy.now)) };
 
     /// Returns the copy histories that are related to the one with this id.
     fn get_related_copies(&self, alloc: Global, copy_id: &CopyId) -> BackendResult<Vec<RelatedCopy>>
+        // The result is one that the backend allows for this ID.
         ensures { may_relate self.now copy_id.now
             (result_map_both (λ v. v.items) (λ e. e) result) };
 
@@ -193,14 +219,20 @@ pub trait Backend {
         // has changed.
         ensures ok { IfOk result (λ id. AddsTree (objects self.old)
             (objects self.new) id contents.now) }
+        // After an error all objects are unchanged.
         ensures unchanged { OnErr result (objects self.new ≡ objects self.old) }
+        // The values that no write changes, such as the ID of the root commit, are unchanged.
         ensures fixed { fixed self.new ≡ fixed self.old }
+        // An error is one that writing this object may return.
         ensures error { IfErr result (may_fail_to_write self.old (tree_object contents.now)) }
+        // The result and the store after the call are ones that the backend allows for this path.
         ensures at_path { may_write self.old (path_of path.entry) (tree_object contents.now) result
             self.new };
 
     /// Reads a commit. `ObjectNotFound` means that no commit has the id.
     fn read_commit(&self, alloc: Global, id: &CommitId) -> BackendResult<Commit>
+        // The result is the commit that the store has under the ID, `ObjectNotFound` only if it has
+        // none, or an error that a read may return.
         ensures { IsRead (may_fail self.now) ((objects self.now).commits id.now) (λ c. c) result };
 
     /// Stores a commit and returns its id and the commit as stored. With a signer, the stored
@@ -211,12 +243,20 @@ pub trait Backend {
         contents: Commit,
         sign_with: Option<&mut S>,
     ) -> BackendResult<(CommitId, Commit)>
+        // The commit as stored was added under the ID returned, which no different commit had; no
+        // other object has changed.
         ensures ok { IfOk result (λ stored. AddsCommit (objects self.old)
             (objects self.new) stored.0 stored.1) }
+        // The stored commit is the commit as it was passed, or with a signature of its content if
+        // there is a signer.
         ensures signed { IfOk result (λ stored.
             IsSigned S.may_sign (option_map (λ f. f.now) sign_with.entry) contents stored.1) }
+        // After an error all objects are unchanged.
         ensures unchanged { OnErr result (objects self.new ≡ objects self.old) }
+        // The values that no write changes, such as the ID of the root commit, are unchanged.
         ensures fixed { fixed self.new ≡ fixed self.old }
+        // An error is one that writing the commit or its stored form may return, or that of the
+        // signer.
         ensures error { IfErr result (IsCommitError S.may_sign
             (λ commit. may_fail_to_write self.old (commit_object commit))
             (option_map (λ f. f.now) sign_with.entry) contents) };
@@ -229,6 +269,7 @@ pub trait Backend {
         root: &CommitId,
         head: &CommitId,
     ) -> BackendResult<Vec<CopyRecord>>
+        // The result is one that the backend allows for these paths and commits.
         ensures { may_list_copies self.now (option_map (λ p. p.now) paths.entry) root.now head.now
             (result_map_both (λ v. v.items) (λ e. e) result) };
 }

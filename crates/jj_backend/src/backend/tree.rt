@@ -139,10 +139,14 @@ impl Tree {
     pub fn from_entries(
         entries: Vec<(RepoPathComponentBuf, TreeValue)>,
     ) -> Result<Self, DuplicateEntryError>
+        // The tree has the entries in another order.
         ensures entries { IfOk result (IsPermutation entries.items) }
+        // Their names ascend.
         ensures ascending { IfOk result (λ tree. IsTrue (is_sorted name_cmp tree)) }
+        // The tree has the value of each entry under its name, and no other.
         ensures values { IfOk result (λ tree. (name : Name)
             → value_at tree name ≡ value_at entries.items name) }
+        // An error has a name that several entries have.
         ensures duplicate { IfErr result (λ error.
             2 ≤ count_by (λ entry. bytes_eq error.name entry.0) entries.items) }
     {
@@ -209,6 +213,7 @@ impl Tree {
 
     /// Returns the value of the entry with this name, by binary search.
     pub fn value(&self, name: RepoPathComponent<'_>) -> Option<&TreeValue>
+        // The result is the value of the entry with this name, `None` if there is none.
         ensures { option_copied result ≡ value_at self.now (name_of name.entry) }
     {
         match find_index(self.entries.as_slice(), name) {

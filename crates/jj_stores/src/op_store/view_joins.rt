@@ -81,6 +81,7 @@ pub fn merge_join_ref_views<'a, F>(
 ) -> Result<MergeJoinRefViews<'a>, AllocError>
 where
     F: FnMut(&'a RemoteView) -> &'a BTreeMap<RefNameBuf, RemoteRef>,
+    // The closure may be called in each of its states.
     requires { F.IsAlwaysCallable get_remote_refs }
     // The join has all local refs left.
     ensures locals { IfOk result (λ join. join.locals ≡ local_refs.now.entries) }

@@ -200,12 +200,18 @@ pub fn write_back<B: Backend>(
     merge: &TreeMerge,
     chosen: &[Option<TreeValue>],
 ) -> BackendResult<TreeId>
+    // There is one choice for each conflict.
     requires { length chosen.now ≡ length merge.now.conflicts.items }
+    // The tree with the ID returned has exactly the resolved and the chosen values, at their paths.
     ensures tree { IfOk result (IsTreeOf (B.objects backend.new).trees (values_to_write
         merge.now.resolved.items merge.now.conflicts.items chosen.now)) }
+    // No object but trees was added, and none has changed.
     ensures objects { AddsTrees (B.objects backend.old) (B.objects backend.new) }
+    // An error is `Memory`, that of paths that form no tree or are too deep, or one of writing a
+    // tree.
     ensures error { IfErr result (IsWriteBackError B.objects B.may_fail_to_write backend.old
         (values_to_write merge.now.resolved.items merge.now.conflicts.items chosen.now)) }
+    // The directories were written at their own paths, one after the other.
     ensures writes { WritesDirectories B.may_write (B.objects backend.new).trees (values_to_write
         merge.now.resolved.items merge.now.conflicts.items chosen.now) backend.old backend.new
         result }
