@@ -20,7 +20,7 @@ IsClosed ps = (steps : List Step) → after_operand ps steps ≡ after ps steps
 abbrev IsFresh : List Pending → Type 0
 IsFresh ps = IsClosed ps × ((steps : List Step) → after_bar ps steps ≡ before (operator Union ∷ ps) steps)
 
--- 2. What the parser does with tokens that derive a tree, before any others.
+-- 2. The state of the parser after tokens that derive a tree, whatever follows them.
 
 abbrev Reads : Level → List Lexeme → SyntaxTree → Type 0
 Reads factor ws set = (len : ℕ) (ps : List Pending) (steps : List Step) (rest : List Lexeme)

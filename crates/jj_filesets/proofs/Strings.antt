@@ -12,7 +12,7 @@ use Rattle.jj_filesets.specs.Strings.{is_word_byte, word, with_byte, raw, quoted
 
 -- 1. Words.
 
--- the word so far, and what follows it
+-- the word so far, and the rest of the input
 pub record IsWordSoFar (text : List ℕ) (len : ℕ) : Type 0 where
   pub within : len ≤ length text
   pub first : (word text).0 ≡ take len text ++ (word (drop len text)).0

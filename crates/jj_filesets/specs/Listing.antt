@@ -45,6 +45,7 @@ abbrev pub path_fault : List ℕ → Option LineFault
 path_fault path = if is_absolute path then Some Absolute
     else (if is_relative path && is_path_string path then None else Some InvalidName)
 
+-- the fault of a line as a path, none if it is one
 abbrev pub text_fault : List ℕ → Option LineFault
 text_fault path = if is_utf8 path then path_fault path else Some NotUtf8
 
@@ -55,9 +56,11 @@ line_fault nul line = if nul then text_fault (without_dot line)
     else (if is_quoted line then Some Quoted
     else (if ends_in_return line then Some CarriageReturn else text_fault (without_dot line)))
 
+-- the line is no path
 abbrev pub is_invalid_line : Bool → List ℕ → Bool
 is_invalid_line nul line = is_some (line_fault nul line)
 
+-- the number of lines that are no paths
 abbrev pub invalid_count : Bool → List (List ℕ) → ℕ
 invalid_count nul lines = count_by (is_invalid_line nul) lines
 
@@ -100,5 +103,6 @@ IsLineError options lines Memory = Unit {0}
 IsLineError options lines (Line number excerpt fault) = (options.skips_invalid ≡ false)
     × IsFirstFault options.nul lines (Line number excerpt fault)
 
+-- the error names the first line that is no path, or memory ran out
 abbrev pub IsListError : ListOptions → List ℕ → ListError → Type 0
 IsListError options input error = IsLineError options (lines_of options.nul input) error

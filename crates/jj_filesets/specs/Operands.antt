@@ -19,6 +19,7 @@ use Rattle.jj_filesets.specs.Strings.{without_space, word, string_at}
 
 -- 1. Names.
 
+-- the kind of pattern with this name
 unfoldable pub kind_named : List ℕ → Option PatternKind
 kind_named name =
     if bytes_eq name (codes "prefix") || bytes_eq name (codes "root") then Some Prefix
@@ -27,6 +28,7 @@ kind_named name =
     else (if bytes_eq name (codes "prefix-glob") || bytes_eq name (codes "root-prefix-glob")
     then Some prefix_glob else None)))
 
+-- the pattern of a function without arguments
 abbrev pub function_named : List ℕ → Option FilePattern
 function_named name =
     if bytes_eq name (codes "all") then Some All
@@ -36,6 +38,7 @@ function_named name =
 abbrev pub is_glob_byte : ℕ → Bool
 is_glob_byte b = b == 42 || b == 63 || b == 91 || b == 93 || b == 123 || b == 125 || b == 92
 
+-- the string has a byte with a meaning in globs
 abbrev pub has_glob_byte : List ℕ → Bool
 has_glob_byte string = list_any is_glob_byte string
 
@@ -78,6 +81,7 @@ abbrev pub relative_pattern : PatternKind → ℕ → List ℕ → Result FilePa
 relative_pattern kind at string =
     if is_relative string then text_pattern kind at string else Err (Syntax at InvalidPath)
 
+-- the pattern of this kind, or the error of its string
 unfoldable pub pattern_of : PatternKind → ℕ → List ℕ → Result FilePattern FilesetParseError
 pattern_of kind at string =
     if is_utf8 string then relative_pattern kind at string else Err (Syntax at NotUtf8)
@@ -122,5 +126,6 @@ operand_after total text name (b ∷ bs) =
     else (if b == 58 then kinded_at total (total - length text) (kind_named name) bs
     else string_pattern_at total Default text)
 
+-- the operand that the string begins with, and the bytes after it
 unfoldable pub operand_at : ℕ → List ℕ → Result (FilePattern × List ℕ) FilesetParseError
 operand_at total text = operand_after total text (word text).0 (word text).1

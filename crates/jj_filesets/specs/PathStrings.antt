@@ -20,6 +20,7 @@ without_slash text =
 abbrev pub plain_path : List ℕ → List ℕ
 plain_path text = without_slash (without_dot text)
 
+-- the string begins with a slash
 abbrev pub is_absolute : List ℕ → Bool
 is_absolute [] = false
 is_absolute (b ∷ bs) = b == 47

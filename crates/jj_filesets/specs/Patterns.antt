@@ -10,6 +10,7 @@ use Rattle.jj_filesets.specs.declared.fileset.pattern.FilePattern.TheVariants.{A
 abbrev pub IsBelowMatch : GlobSpec → Path → Type 0
 IsBelowMatch glob path = (base : Path) × IsBelow path base × IsMatch glob (path_string base)
 
+-- the path is in the set of the pattern
 abbrev pub Matches : FilePattern → Path → Type 0
 Matches All path = Unit {0}
 Matches Nothing path = ⊥

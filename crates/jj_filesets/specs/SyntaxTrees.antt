@@ -5,6 +5,7 @@ use Rattle.jj_paths.specs.Paths.{Path}
 use Rattle.jj_filesets.specs.declared.fileset.pattern.FilePattern.{FilePattern}
 use Rattle.jj_filesets.specs.Patterns.{Matches}
 
+-- an expression as a tree of operators over patterns
 pub data SyntaxTree : Type 0 where
   pattern : FilePattern → SyntaxTree
   complement : SyntaxTree → SyntaxTree

@@ -89,12 +89,16 @@ pub fn select_lines(
     options: ListOptions,
     input: &[u8],
 ) -> Result<SelectedLines, ListError>
+    // The output has exactly the lines that are paths of files in the set, unchanged and in order.
     ensures lines { IfOk result (λ selected.
         PrintsSet expression.now options.nul input.now selected.output.items) }
+    // `invalid` is the number of lines that are no paths.
     ensures invalid { IfOk result (λ selected.
         selected.invalid ≡ invalid_count options.nul (lines_of options.nul input.now)) }
+    // Unless such lines are skipped, there is none after a success.
     ensures strict { IfOk result (λ selected.
         options.skips_invalid ≡ false → selected.invalid ≡ 0) }
+    // An error names the first line that is no path, which is not skipped, or memory ran out.
     ensures error { IfErr result (IsListError options input.now) }
 {
     let separator = separator(options.nul);

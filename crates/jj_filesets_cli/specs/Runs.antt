@@ -20,7 +20,7 @@ use Rattle.jj_filesets_cli.specs.declared.outcome.Outcome.{Outcome}
 -- 1. Selections.
 
 -- the output has the lines of the input in the set; so many of its lines are no paths, and none if
--- they are not skipped; the status is 1 if there is no line and that is asked for
+-- they are not skipped; the status is 1 if there is no line and the option for this is set
 pub record Selects (set : SyntaxTree) (options : ListOptions) (fails_if_none : Bool)
     (input output : List ℕ) (outcome : Outcome) : Type 0 where
   pub lines : PrintsSet set options.nul input output

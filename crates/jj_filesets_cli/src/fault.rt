@@ -9,7 +9,7 @@ use jj_filter::report::Report;
 use std::alloc::{AllocError, AllocFailed};
 use thiserror::Error;
 
-// A fault of the expression; `place` quotes it from the offset `at` on.
+// A fault of the expression, which is quoted beginning at the offset `at`.
 #[derive(Debug, Drop, Error)]
 #[error("expression at byte {at}, {place}: {kind}")]
 pub(crate) struct ExpressionFault {

@@ -201,8 +201,8 @@ pub(crate) fn reads_input(words: &[String]) -> bool {
 }
 
 // Runs the program with these arguments (without the program's name), and returns its exit status:
-// 0, 1 after a failure, or if no line is in the set and that is asked for, 2 after a wrong option
-// or expression. A failing `errors` does not change the status.
+// 0, 1 after a failure, or if no line is in the set and the option for this is set, 2 after a wrong
+// option or expression. A failing `errors` does not change the status.
 pub(crate) fn start<R: Source, W: Sink, E: Sink>(
     alloc: Global,
     words: &[String],

@@ -174,7 +174,7 @@ module _ (accepts opens : Path → Bool) (visit : Path → VisitSpec) where
     front_is : (i : ℕ) (d : OpenDirectory) → i < k → dir_of (get_or new i d) ≡ take i p
     front_is i d lt = ap dir_of (kept_at i d lt) ∙ walked.to.chain i d (omega (arith, lt, cut.within))
 
-    -- the last directory that is kept is above the mark
+    -- the last remaining directory is above the mark
     base : 0 < k → (rest : Path) × (above ≡ take (k - 1) p ++ rest)
     base lt = by_case cut.above
       where

@@ -19,6 +19,7 @@ pub record IsMarkedTree (marks : List Path) (tree : Tree Bool) : Type 0 where
 abbrev pub is_marked : Tree Bool → Path → Bool
 is_marked tree path = unwrap_or (value_at tree path) false
 
+-- the paths of the marked nodes
 abbrev pub marked_paths : Tree Bool → List Path
 marked_paths tree = filter (is_marked tree) (map (λ found. found.path) (all_nodes tree))
 

@@ -9,6 +9,7 @@ use Rattle.jj_paths.specs.Nodes.{all_nodes}
 use Rattle.jj_globs.specs.GlobMeaning.{GlobSpec}
 use Rattle.jj_matchers.specs.Marks.{LeadsToMarks}
 
+-- the list of globs is not empty
 abbrev pub has_globs : List GlobSpec → Bool
 has_globs [] = false
 has_globs (glob ∷ globs) = true
@@ -19,6 +20,7 @@ marked_branches none = none
 marked_branches (branch name globs below after) =
     branch name (has_globs globs) (marked_branches below) (marked_branches after)
 
+-- the tree whose marks are the nodes with globs
 abbrev pub marks_of : Tree (List GlobSpec) → Tree Bool
 marks_of tree = tree_of (has_globs tree.value) (marked_branches tree.branches)
 
@@ -33,6 +35,7 @@ globs_at tree dir = unwrap_or (value_at tree dir) []
 abbrev pub patterns_at : Tree (List GlobSpec) → Path → List (Path × GlobSpec)
 patterns_at tree dir = map (λ glob. (dir, glob)) (globs_at tree dir)
 
+-- the patterns in the tree: each glob with the path of its node
 abbrev pub patterns_of : Tree (List GlobSpec) → List (Path × GlobSpec)
 patterns_of tree = flat_map (patterns_at tree) (map (λ found. found.path) (all_nodes tree))
 

@@ -14,6 +14,7 @@ use Rattle.jj_matchers.specs.PathLists.{has_prefix, leads_to_listed, leads_to_pr
 
 -- 1. Strings.
 
+-- the outcome is a match
 abbrev pub is_yes : Outcome → Bool
 is_yes matched = true
 is_yes unmatched = false
@@ -71,6 +72,7 @@ pub record HasSamePatterns (set other : Patterns) : Type 0 where
   pub members : (test : Path × GlobSpec → Bool)
       → list_any test set.patterns ≡ list_any test other.patterns
 
+-- the directories of the patterns
 abbrev pub pattern_dirs : Patterns → List Path
 pattern_dirs set = map (λ pattern. pattern.0) set.patterns
 

@@ -15,10 +15,12 @@ use Rattle.jj_matchers.specs.declared.matchers.sorted_visits.SortedVisit.TheVari
 abbrev pub is_named : List RepoPathComponent → Name → Bool
 is_named keys = is_among (map name_of keys)
 
+-- whether a sorted list of names, or the list of all names, has the name
 abbrev pub sorted_names : SortedNames → Name → Bool
 sorted_names All name = true
 sorted_names (Set names) name = is_named names.keys name
 
+-- the specification of a visit with sorted names
 abbrev pub sorted_visit_spec : SortedVisit → VisitSpec
 sorted_visit_spec AllRecursively = all_recursively
 sorted_visit_spec (Specific dirs files) = specific (sorted_names dirs) (sorted_names files)

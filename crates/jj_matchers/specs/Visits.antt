@@ -16,14 +16,17 @@ use Rattle.jj_matchers.specs.declared.matchers.visits.VisitFiles.TheVariants as 
 abbrev pub is_among : List Name → Name → Bool
 is_among keys name = list_any (bytes_eq name) keys
 
+-- whether the directories of a visit include the name
 abbrev pub dir_names : VisitDirs → Name → Bool
 dir_names dirs.All name = true
 dir_names (dirs.Set names) name = is_among names.keys name
 
+-- whether the files of a visit include the name
 abbrev pub file_names : VisitFiles → Name → Bool
 file_names files.All name = true
 file_names (files.Set names) name = is_among names.keys name
 
+-- the specification of a visit: nothing, everything below, or the names that it mentions
 abbrev pub visit_spec : Visit → VisitSpec
 visit_spec AllRecursively = all_recursively
 visit_spec (Specific dirs files) = specific (dir_names dirs) (file_names files)

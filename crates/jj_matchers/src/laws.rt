@@ -2,7 +2,7 @@
 ghost use Rattle.jj_matchers.specs.Laws.{FindsMarks, FindsInOrder, WalksAsMarks, AcceptsMembers, AcceptsBelow, AcceptsMatches, VisitsToMatches};
 
 /// Proves that `walk_matching` finds exactly the marked paths below the root that the matcher
-/// accepts, in path order and each once, and what `walk_marks` finds in the list of the marks.
+/// accepts, in path order and each once, and the same list as `walk_marks` over the list of marks.
 pub fn walks_find_accepted_marks()
     ensures files { FindsMarks }
     ensures ordered { FindsInOrder }

@@ -76,10 +76,15 @@ pub trait Matcher: Drop {
 
     /// Returns the visit of `visit_sorted` with names of its own.
     fn visit(&self, alloc: Global, dir: RepoPath<'_>) -> Result<Visit, AllocError>
+        // The visit is the one that the ghost member `visits` has for the directory.
         ensures visit { IfOk result (λ visit. visit_spec visit
             ≡ visits self.now (path_of dir.entry)) }
+        // It is `Nothing` only if no path below is accepted, and `AllRecursively` only if all are,
+        // and may be opened; else it mentions each child that is accepted or has accepted paths
+        // below it.
         ensures sound { IfOk result (λ visit.
             IsSound (accepts self.now) (opens self.now) (path_of dir.entry) (visit_spec visit)) }
+        // It mentions all names, or only those that `mentioned` lists.
         ensures names { IfOk result (λ visit.
             MentionsOnly (mentioned self.now (path_of dir.entry)) (visit_spec visit)) }
     {

@@ -30,6 +30,7 @@ IsPathText text = IsTrue (is_path_string text) × IsShortText text
 abbrev pub IsShortPath : Path → Type 0
 IsShortPath path = (components (path_string path) ≡ path) × IsPathText (path_string path)
 
+-- the content of a path: that of its string
 abbrev pub path_content : Path → List ℕ
 path_content path = string_content (path_string path)
 

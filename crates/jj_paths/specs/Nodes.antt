@@ -10,6 +10,7 @@ pub record NodeAt (V : Type 0) : Type 0 where
   pub path : Path
   pub node : Tree V
 
+-- a node with its path
 abbrev pub node_at : {V : Type 0} → Path → Tree V → NodeAt V
 node_at path node = record { path = path; node = node }
 

@@ -23,6 +23,7 @@ pub record Tree (V : Type 0) : Type 0 where
   pub value : V
   pub branches : Branches V
 
+-- the tree with this value and these branches
 abbrev pub tree_of : {V : Type 0} → V → Branches V → Tree V
 tree_of value branches = record { value = value; branches = branches }
 
@@ -40,6 +41,7 @@ module _ {V : Type 0} where
   branches_of [] = none
   branches_of (x ∷ xs) = branch x.0 x.1.value x.1.branches (branches_of xs)
 
+  -- there is a child
   abbrev pub has_branches : Branches V → Bool
   has_branches none = false
   has_branches (branch name value below after) = true
@@ -130,6 +132,7 @@ module _ {V : Type 0} where
     pub at_name : child tree.branches name ≡ Some sub
     pub is_put : new ≡ tree_of tree.value (update_child tree.branches name (λ _. changed))
 
+  -- the value of the node at the path, none if there is no node
   abbrev pub value_at : Tree V → Path → Option V
   value_at tree path = option_map (λ node. node.value) (get tree path)
 
@@ -175,6 +178,7 @@ module _ {V : Type 0} where
       (name ≡ name') × is_clone value value' × AreClones is_clone below below'
       × AreClones is_clone after after'
 
+  -- the copy has the nodes of the tree, with a clone of each value
   abbrev pub IsTreeClone : (V → V → Type 0) → Tree V → Tree V → Type 0
   IsTreeClone is_clone tree copy = is_clone tree.value copy.value
       × AreClones is_clone tree.branches copy.branches

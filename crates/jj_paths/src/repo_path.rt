@@ -205,6 +205,7 @@ impl<'a> RepoPath<'a> {
 
     /// Appends a component.
     pub fn join(self, alloc: Global, name: RepoPathComponent<'_>) -> Result<RepoPathBuf, AllocError>
+        // The result has the components of the path and then the name.
         ensures { IfOk result (λ joined. joined ≡ path_of self.entry ++ name_of name.entry ∷ []) }
     {
         let mut value = copy_with_capacity(alloc, self.value, name.value.len().saturating_add(1))?;
@@ -238,6 +239,7 @@ impl<'a> RepoPath<'a> {
     /// Returns whether `base` is the path itself or one of its ancestors, component by component:
     /// `ab/c` does not start with `a`.
     pub fn starts_with(self, base: RepoPath<'_>) -> bool
+        // The result is true exactly if the path is `base` or a descendant of it.
         ensures { IsTrue result ↔ IsBelow (path_of self.entry) (path_of base.entry) }
     {
         self.strip_prefix(base).is_some()
@@ -246,6 +248,7 @@ impl<'a> RepoPath<'a> {
     /// Returns the rest of the path below `base`, or `None` if the path is not `base` and not below
     /// it: `a/b/c` without `a` is `b/c`.
     pub fn strip_prefix(self, base: RepoPath<'_>) -> Option<RepoPath<'a>>
+        // The result is the rest of the path after `base`, `None` if `base` is no prefix of it.
         ensures { MatchOption result ((rest : Path)
             → path_of self.entry ≢ path_of base.entry ++ rest)
             (λ rest. path_of self.entry ≡ path_of base.entry ++ path_of rest) }
@@ -297,8 +300,11 @@ impl<'a> RepoPath<'a> {
     /// Returns the longest common prefix of the two paths, by components, and the rest of this
     /// path: `a/b/c` and `a/bd` have the prefix `a`, with `b/c` left.
     pub fn split_common_prefix(self, other: RepoPath<'_>) -> (RepoPath<'a>, RepoPath<'a>)
+        // The path is the prefix and then the rest.
         ensures whole { path_of self.entry ≡ path_of result.0 ++ path_of result.1 }
+        // The other path begins with the prefix too.
         ensures common { IsBelow (path_of other.entry) (path_of result.0) }
+        // Each common prefix of both paths is one of this prefix.
         ensures longest { (prefix : Path) → IsBelow (path_of self.entry) prefix
             → IsBelow (path_of other.entry) prefix → IsBelow (path_of result.0) prefix }
     {
@@ -391,9 +397,12 @@ impl RepoPathBuf {
     /// Creates a path of the string, without copying it: the empty string, or components joined by
     /// slashes. Returns `Invalid` with the string for any other one.
     pub fn from_internal_string(value: String) -> Result<RepoPathBuf, InvalidNewRepoPathError>
+        // The path has the components that the slashes of the string separate.
         ensures ok { IfOk result (λ path. path ≡ components (string_bytes value)) }
+        // A valid string succeeds.
         ensures valid { IsTrue (is_path_string (string_bytes value)) → IsOk result }
         ensures only_valid { IsOk result → IsTrue (is_path_string (string_bytes value)) }
+        // An error has the string, which is invalid.
         ensures error { IfErr result (IsStringError (is_path_string (string_bytes value))
             (string_bytes value)) }
     {

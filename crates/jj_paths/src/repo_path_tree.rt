@@ -72,7 +72,7 @@ impl<V> Model for RepoPathNode<V> {
 
 /// Depth-first traversal with pointer reversal (Deutsch, Schorr and Waite), so that dropping a deep
 /// tree takes constant stack and no memory. On the way down, the entry of the visited child stores
-/// the entries above its parent in place of its own children: they lead back up.
+/// the entries above its parent instead of its own children: they lead back up.
 impl<V: Drop> Drop for RepoPathNode<V> {
     fn drop(self) {
         let mut current = self.into_entries();
@@ -490,12 +490,12 @@ impl<V> RepoPathTree<V> {
     pub fn set(&mut self, path: RepoPath<'_>, mut value: V) -> Result<(), AllocError>
     where
         V: Default + Drop,
-        // The path has the value and all other values are kept; new ones are at most default values
-        // at ancestors of the path.
+        // The path has the value and all other values are unchanged; new ones are at most default
+        // values at ancestors of the path.
         ensures as_map { IfOk result (λ done.
             SetsValue V.is_default self.old (path_of path.entry) value self.new) }
-        // After an error all values are kept; new ones are at most default values at the path and
-        // its ancestors.
+        // After an error all values are unchanged; new ones are at most default values at the path
+        // and its ancestors.
         ensures edited { MatchResult result (λ done. (t : Tree V)
             × AddsDefaults V.is_default self.old (path_of path.entry) t
             × IsSome (get t (path_of path.entry))

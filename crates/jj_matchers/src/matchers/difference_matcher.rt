@@ -56,6 +56,7 @@ impl<M1: Matcher, M2: Matcher> Matcher for DifferenceMatcher<M1, M2> {
 /// below the names that it mentions, so it removes no names; it only turns `AllRecursively` into
 /// all children.
 pub fn difference_visit<'a>(wanted: SortedVisit<'a>, unwanted: SortedVisit<'a>) -> SortedVisit<'a>
+    // The visit is the difference of both: `AllRecursively` removes all names, other visits none.
     ensures { sorted_visit_spec result
         ≡ difference_spec (sorted_visit_spec wanted.entry) (sorted_visit_spec unwanted.entry) }
 {

@@ -18,7 +18,7 @@ use std::marker::Model;
 #[derive(Debug, Drop)]
 pub struct DirPatterns {
     patterns: Option<Vec<LinkedPattern>>,
-    // Whether the patterns are known to be sorted by literal prefix, so that their links hold.
+    // Whether the patterns are known to be sorted by literal prefix, so that their links are valid.
     is_sorted: bool,
 }
 

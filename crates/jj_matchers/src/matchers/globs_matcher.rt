@@ -116,6 +116,8 @@ impl Matcher for GlobsMatcher {
 
     fn matches(&self, file: RepoPath<'_>) -> bool
         ensures accepted { result ≡ is_accepted self.now (path_of file.entry) }
+        // The result is true exactly if a pattern whose directory is above the file matches the
+        // rest of its path.
         ensures meaning { IsTrue result ↔ IsAccepted self.now (path_of file.entry) }
     {
         let prefix_paths = self.matches_prefix_paths;

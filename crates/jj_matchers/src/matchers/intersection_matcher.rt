@@ -63,6 +63,7 @@ pub fn intersection_visit<'a>(
     first: SortedVisit<'a>,
     second: SortedVisit<'a>,
 ) -> Result<SortedVisit<'a>, AllocError>
+    // The visit is the intersection of both: it mentions the names of both.
     ensures { IfOk result (λ visit. (names : List Name)
         → MentionsOnly names (sorted_visit_spec first.entry)
         → MentionsOnly names (sorted_visit_spec second.entry)

@@ -31,6 +31,8 @@ pub fn walk_marks<'t, M: Matcher>(
     marks: &[RepoPath<'t>],
     matcher: &M,
 ) -> Result<Walk<RepoPath<'t>>, AllocError>
+    // The files are the marks below the root that the matcher accepts, and the directories are
+    // those above a mark that the visits lead to; both are in path order, each once.
     ensures { IfOk result (λ walk. WalksMarks (M.accepts matcher.now) (M.visits matcher.now)
         (map path_of marks.now) (map path_of walk.files.items) (map path_of walk.entered.items)) }
 {

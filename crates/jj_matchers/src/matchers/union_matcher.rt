@@ -60,6 +60,7 @@ pub fn union_visit<'a>(
     first: SortedVisit<'a>,
     second: SortedVisit<'a>,
 ) -> Result<SortedVisit<'a>, AllocError>
+    // The visit is the union of both: it mentions the names of either.
     ensures { IfOk result (λ visit. sorted_visit_spec visit
         ≡ union_spec (sorted_visit_spec first.entry) (sorted_visit_spec second.entry)) }
 {

@@ -1,4 +1,4 @@
-//! `RepoPathBuf::extend`: components appended in place, with rollback after a failed allocation.
+//! `RepoPathBuf::extend`: appends components, with rollback after a failed allocation.
 ghost use Rattle.std.specs.Prelude.{◌≡◌, ◌++◌, List, IfOk, IfErr, map, string_bytes};
 ghost use Rattle.std.specs.Iterator.{IsFiniteIterable, Drains};
 ghost use Rattle.jj_paths.specs.Names.{name_of};

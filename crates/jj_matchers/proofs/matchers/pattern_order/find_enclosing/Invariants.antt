@@ -1,4 +1,4 @@
--- no pattern after the remaining ones encloses the given one
+-- no pattern after the remaining ones encloses this one
 use Rattle.std.proofs.Common.{◌≡◌, true, length, ◌++◌, ◌∷◌, []}
 use Rattle.jj_globs.specs.GlobPrefix.{glob_prefix}
 use Rattle.jj_matchers.specs.PatternOrder.{is_sorted_by_prefix}
