@@ -24,7 +24,7 @@ pub fn compare_closely<'a>(
 
 /// Compares two versions of a file. A line that is exactly once in each version matches, or it
 /// crosses a hunk that matches: it is before that hunk in one version and after it in the other.
-/// This holds if each hunk that differs has at most 64 lines of each version.
+/// Assumes that each hunk that differs has at most 64 lines of each version.
 #[tactic(auto, using(crate::proofs::Shared::shared_steps))]
 pub fn compare_shared_lines<'a>(
     alloc: Global,

@@ -1,4 +1,4 @@
-//! Callers of `jj_diff` that say what each hunk of a comparison is.
+//! Callers of `jj_diff` that state the kind and the position of each hunk of a comparison.
 ghost use Rattle.std.specs.Prelude.{◌≡◌, map, All, IfOk};
 ghost use Rattle.jj_diff.specs.Inputs.{side};
 ghost use Rattle.jj_diff.specs.Hunks.{row_of, AllMatch, Alternate};

@@ -1,6 +1,6 @@
-//! Callers that restate the contracts of `jj_diff`. What a caller's contract rejects, the contract
-//! of the function that it calls rejects too: so the mutations of that library are edits of these
-//! bodies.
+//! Callers that restate the contracts of `jj_diff`. A body that a caller's contract rejects is also
+//! rejected by the contract of the called function: so the mutations of that library are edits of
+//! these bodies.
 #![tactic(auto)]
 
 pub mod changes;

@@ -12,9 +12,9 @@ use jj_diff::diff::{CompareBytesExactly, ContentDiff, Tokenizer};
 use std::alloc::{AllocError, Global};
 use std::ops::Range;
 
-/// Compares two versions of a file by lines, and then the words of the lines that differ. What
-/// matches by lines matches still, and so do the lines before the first one that differs and after
-/// the last one that differs.
+/// Compares two versions of a file by lines, and then the words of the lines that differ. Lines
+/// that match in the first comparison still match, and so do the lines before the first one that
+/// differs and after the last one that differs.
 pub fn compare_words<'a>(
     alloc: Global,
     left: &'a [u8],

@@ -1,6 +1,6 @@
-//! Callers that restate the contracts of the libraries of bytes, names, paths and merges. What a
-//! caller's contract rejects, the contract of the function that it calls rejects too, since that
-//! contract implies the caller's: so the mutations of these libraries are edits of these bodies.
+//! Callers that restate the contracts of the libraries of bytes, names, paths and merges. A
+//! body that a caller's contract rejects is also rejected by the contract of the called function,
+//! which implies the caller's: so the mutations of these libraries are edits of these bodies.
 #![tactic(auto)]
 
 pub mod content;

@@ -6,7 +6,7 @@ use Rattle.jj_conflicts.specs.Rendering.{label_at, term_byte, section, sections,
 use Rattle.jj_conflicts.specs.declared.conflicts.ConflictMarkerStyle.{ConflictMarkerStyle}
 use Rattle.jj_conflicts.specs.declared.conflicts.ConflictMarkerStyle.TheVariants.{Git}
 
--- a function of the items from i on, at the item there
+-- a function of the suffix that begins at index i, applied to the item at i
 pub at_item : {X Y : Type 0} (F : List X → Y) (xs : List X) (i : ℕ) (x : X) → i < length xs
     → x ≡ get_or xs i x → F (drop i xs) ≡ F (x ∷ drop (i + 1) xs)
 at_item F xs i x h e =

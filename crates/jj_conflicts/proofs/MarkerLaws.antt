@@ -100,7 +100,7 @@ none-run byte zero h = refl
 none-run byte (suc n) h =
     ap (λ v. v || list_any (λ c. c == 10) (replicate n byte)) h ∙ none-run byte n h
 
--- the result of testing a label that is shown
+-- the result of testing a label that is written
 shown_parts : (byte n : ℕ) (label : List ℕ) → is_shown byte n label ≡ true
     → (list_any (λ b. b == 10) label ≡ false)
     × (has_note (replicate n byte ++ 32 ∷ [] ++ label ++ 10 ∷ []) ≡ false)

@@ -338,7 +338,7 @@ diff_inside n label base side' text h d t u b c =
     (marker_of-marker 37 n label false percent h)
     ∙ hunks_inside n d.hunks (diff-readable n base side' d.hunks d.diff t u b c)
 
--- ---- the side that is shown as it is
+-- ---- the side that is written verbatim
 
 abbrev pub showing : List (List ℕ) → List ℕ → Bool → Sections
 showing terms text noted =

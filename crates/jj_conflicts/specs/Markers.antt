@@ -36,6 +36,7 @@ abbrev pub first_or_zero : List ℕ → ℕ
 first_or_zero [] = 0
 first_or_zero (b ∷ bs) = b
 
+-- the line begins with a marker of at least n bytes, followed by a blank or the end
 abbrev pub is_marker : ℕ → List ℕ → Bool
 is_marker n line = nat_lt 0 (run_length line) && nat_le n (run_length line)
     && is_blank_next (drop (run_length line) line)
@@ -48,20 +49,24 @@ marker_of n line = if is_marker n line then first_or_zero line else 0
 abbrev pub note : List ℕ
 note = codes " (no terminating newline)"
 
+-- the line ends in the note that its term does not end in LF
 abbrev pub has_note : List ℕ → Bool
 has_note line = ends_with nat_eq line (codes " (no terminating newline)\n")
 
--- a label is shown if it is not empty, has no LF, and does not end as the note does
+-- a label is written if it is not empty, has no LF, and does not end as the note does
 abbrev pub is_shown : ℕ → ℕ → List ℕ → Bool
 is_shown byte n label = nat_lt 0 (length label) && not (list_any (λ b. b == 10) label)
     && not (has_note (replicate n byte ++ 32 ∷ [] ++ label ++ 10 ∷ []))
 
+-- the label after a space, or nothing if it is left out
 abbrev pub shown_label : ℕ → ℕ → List ℕ → List ℕ
 shown_label byte n label = if is_shown byte n label then 32 ∷ label else []
 
+-- the note that a term does not end in LF, if this is so
 abbrev pub note_if : Bool → List ℕ
 note_if noted = if noted then note else []
 
+-- a marker of n bytes, the label after a space, and the note if it applies
 abbrev pub marker_line : ℕ → ℕ → List ℕ → Bool → List ℕ
 marker_line byte n label noted =
     replicate n byte ++ shown_label byte n label ++ note_if noted ++ 10 ∷ []

@@ -45,6 +45,7 @@ with_line n is_git s line =
     if is_separator is_git (marker_of n line) then with_separator is_git (marker_of n line) s line
     else record s { current = s.current ++ line }
 
+-- the state after these lines of a conflict
 abbrev pub with_lines : ℕ → Bool → Terms → List (List ℕ) → Terms
 with_lines n is_git s lines = fold (with_line n is_git) s lines
 
@@ -56,7 +57,7 @@ first_term line = record { finished = []; current = []; noted = has_note line; v
 abbrev pub last_noted : Bool → Terms → List ℕ → Bool
 last_noted is_git s end = if is_git then has_note end else s.noted
 
--- so many finished terms and the current one are those of a merge of this number of sides
+-- a merge of this number of sides has as many terms as are finished, and the current one
 abbrev pub has_sides : ℕ → ℕ → Bool
 has_sides sides finished = (finished % 2 == 0) && (finished / 2 + 1 == sides)
 
@@ -83,7 +84,7 @@ pub record Sections : Type 0 where
 abbrev pub is_odd : ℕ → Bool
 is_odd k = k % 2 == 1
 
--- A comparison before the side that is shown as it is has a side and the base after it; one after
+-- A comparison before the side that is written verbatim has a side and the base after it; one after
 -- that side has a base and the side after it.
 abbrev pub section_terms : ℕ → Bool → List ℕ → List ℕ → List (List ℕ)
 section_terms byte odd base side =
@@ -95,7 +96,7 @@ abbrev pub done_terms : Sections → List (List ℕ)
 done_terms s = s.terms ++ section_terms s.byte (is_odd (length s.terms))
     (term_of s.noted s.base) (term_of s.noted s.side)
 
--- one side is shown as it is
+-- one side is written verbatim
 abbrev pub with_section : Sections → ℕ → List ℕ → Sections
 with_section s byte line = record {
   terms = done_terms s;
@@ -117,6 +118,7 @@ with_diff_line s (b ∷ bs) =
     else if b == 10 then record s { base = s.base ++ b ∷ bs; side = s.side ++ b ∷ bs }
     else record s { valid = false }
 
+-- the byte begins the marker of a section: `%` of a comparison or `+` of a side
 abbrev pub is_section_byte : ℕ → Bool
 is_section_byte byte = byte == 37 || byte == 43
 
@@ -126,11 +128,12 @@ with_section_line n s line =
     else if s.byte == 43 then record s { side = s.side ++ line }
     else with_diff_line s line
 
+-- the state before the first section
 abbrev pub no_sections : Sections
 no_sections =
     record { terms = []; byte = 0; base = []; side = []; noted = false; valid = true }
 
--- so many terms are those of a merge of this number of sides
+-- a merge of this number of sides has k terms
 abbrev pub has_terms : ℕ → ℕ → Bool
 has_terms sides k = is_odd k && (k / 2 + 1 == sides)
 
@@ -139,6 +142,7 @@ abbrev pub sections_outcome : ℕ → Sections → Option (List (List ℕ))
 sections_outcome sides s =
     if s.valid && has_terms sides (length (done_terms s)) then Some (done_terms s) else None
 
+-- the terms of a conflict from the lines of its sections
 abbrev pub section_lines : ℕ → ℕ → List (List ℕ) → Option (List (List ℕ))
 section_lines n sides lines =
     sections_outcome sides (fold (with_section_line n) no_sections lines)
@@ -210,11 +214,14 @@ with_text_line n sides s line =
     then with_conflict s line (terms_of n sides (split_lines s.pending) line)
     else record s { pending = s.pending ++ line }
 
+-- the state before the first line: no hunk was found
 abbrev pub no_hunks : Hunks
 no_hunks = record { hunks = []; resolved = []; pending = [] }
 
+-- the hunks that were found, and the lines after the last one as a resolved hunk
 abbrev pub all_hunks : Hunks → List (List (List ℕ))
 all_hunks s = s.hunks ++ resolved_hunk (s.resolved ++ s.pending)
 
+-- the hunks that the state machine finds in the lines of a string
 abbrev pub parsed : ℕ → ℕ → List ℕ → List (List (List ℕ))
 parsed n sides text = all_hunks (fold (with_text_line n sides) no_hunks (split_lines text))

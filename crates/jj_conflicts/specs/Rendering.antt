@@ -30,15 +30,17 @@ sections n labels i [] = []
 sections n labels i (term ∷ terms) =
     section n (term_byte i) (label_at labels i) term ++ sections n labels (i + 1) terms
 
--- such as "Conflict 1 of 2"
+-- the label of a conflict by its number, such as "Conflict 1 of 2"
 abbrev pub conflict_label : ℕ → ℕ → List ℕ
 conflict_label number count = codes "Conflict " ++ decimal number ++ codes " of " ++ decimal count
 
+-- a conflict in the snapshot style: each term in a section of its own
 abbrev pub snapshot_text : ℕ → List (List ℕ) → ℕ → ℕ → List (List ℕ) → List ℕ
 snapshot_text n labels number count terms =
     marker_line 60 n (conflict_label number count) false ++ sections n labels 0 terms
     ++ marker_line 62 n (conflict_label number count ++ codes " ends") false
 
+-- a conflict in Git's style: left, base and right
 abbrev pub git_text : ℕ → List (List ℕ) → List ℕ → List ℕ → List ℕ → List ℕ
 git_text n labels left base right =
     section n 60 (label_at labels 0) left ++ section n 124 (label_at labels 1) base
@@ -52,6 +54,7 @@ conflict_text Git n labels number count (left ∷ base ∷ right ∷ []) =
     git_text n labels left base right
 conflict_text style n labels number count terms = snapshot_text n labels number count terms
 
+-- the number of hunks that are conflicts
 abbrev pub conflict_count : List (List (List ℕ)) → ℕ
 conflict_count [] = 0
 conflict_count ((term ∷ []) ∷ hunks) = conflict_count hunks
@@ -70,11 +73,12 @@ compared_text Matching row = prefixed 32 (slice_index_or row 0 [])
 compared_text Different row =
     prefixed 45 (slice_index_or row 0 []) ++ prefixed 43 (slice_index_or row 1 [])
 
+-- the lines of a comparison, each after a space, `-` or `+`
 abbrev pub diff_text : List DiffHunk → List ℕ
 diff_text [] = []
 diff_text (hunk ∷ hunks) = compared_text hunk.kind (row_of hunk) ++ diff_text hunks
 
--- such as "from base to left", and empty if a label is
+-- the label of a comparison, such as "from base to left"; empty if the label of a term is
 abbrev pub diff_label : List ℕ → List ℕ → List ℕ
 diff_label [] side = []
 diff_label (b ∷ base) [] = []
@@ -95,6 +99,7 @@ AreSections n labels i (side ∷ base ∷ terms) text = (first : List ℕ) × ((
     × (IsDiffSection n (diff_label (label_at labels (i + 1)) (label_at labels i)) base side first
     × AreSections n labels (i + 2) terms rest × (text ≡ first ++ rest)))
 
+-- each term is empty or ends in LF
 abbrev pub all_terminated : List (List ℕ) → Bool
 all_terminated terms = list_all is_terminated terms
 
@@ -107,6 +112,7 @@ IsDiffText true n labels number count terms text = (body : List ℕ)
 IsDiffText false n labels number count terms text =
     text ≡ snapshot_text n labels number count terms
 
+-- a rendering of a conflict in this style
 abbrev pub IsConflictText : ConflictMarkerStyle → ℕ → List (List ℕ) → ℕ → ℕ → List (List ℕ)
     → List ℕ → Type 0
 IsConflictText Diff n labels number count terms text =
@@ -144,5 +150,6 @@ rendered_from style n labels number count (terms ∷ hunks) =
     conflict_text style n labels (number + 1) count terms
     ++ rendered_from style n labels (number + 1) count hunks
 
+-- the rendering of all hunks in the snapshot style or Git's
 abbrev pub rendered : ConflictMarkerStyle → ℕ → List (List ℕ) → List (List (List ℕ)) → List ℕ
 rendered style n labels hunks = rendered_from style n labels 0 (conflict_count hunks) hunks

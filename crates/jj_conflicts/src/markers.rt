@@ -60,7 +60,7 @@ pub fn marker_of(line: &[u8], marker_len: usize) -> u8
     line[0]
 }
 
-/// Returns whether a marker line says that its term does not end in LF.
+/// Returns whether a marker line has the note that its term does not end in LF.
 pub fn has_note(line: &[u8]) -> bool
     ensures { result ≡ has_note line.now }
 {

@@ -49,7 +49,7 @@ part_past (y ∷ z ∷ row) i h le = get_or-past (y ∷ z ∷ row) i le
 
 -- ---- one hunk more
 
--- a function of the hunks from i on, at the hunk there
+-- a function of the suffix of hunks that begins at index i, applied to the hunk at i
 pub at_hunk : {Y : Type 0} (F : List MergeHunk → Y) (hs : List MergeHunk) (i : ℕ) (h : MergeHunk)
     → i < length hs → h ≡ get_or hs i h → F (drop i hs) ≡ F (h ∷ drop (i + 1) hs)
 at_hunk F hs i h lt e =

@@ -60,6 +60,7 @@ abbrev pub IsUnresolved : FileMergeHunkLevel → SameChange → List (List ℕ) 
 IsUnresolved Line same row terms = terms ≡ row
 IsUnresolved Word same row terms = IsWordMerge same row terms
 
+-- the outcome of a row: its resolved value, or a conflict if it does not resolve
 abbrev pub IsHunk : FileMergeHunkLevel → SameChange → List (List ℕ) → List (List ℕ) → Type 0
 IsHunk level same row terms =
     ((v : List ℕ) × (terms ≡ v ∷ []) × ResolvesTo bytes_eq same row v)
@@ -86,6 +87,7 @@ pub record IsMergeResult (level : FileMergeHunkLevel) (same : SameChange)
   pub merge : IsContentMerge level same inputs hunks
   pub outcome : IsResult hunks result
 
+-- the result is resolved, and its content is v
 abbrev pub IsResolvedTo : List ℕ → MergeResult → Type 0
 IsResolvedTo v (ResolvedResult text) = text.items ≡ v
 IsResolvedTo v (ConflictResult hunks) = ⊥

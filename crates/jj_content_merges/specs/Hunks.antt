@@ -9,6 +9,7 @@ use Rattle.std.proofs.Common.{Vec, Global}
 abbrev pub merge_contents : List (Vec ℕ Global) → List (List ℕ)
 merge_contents terms = map (λ term. term.items) terms
 
+-- the hunks as merges of byte strings
 abbrev pub contents : List (List (Vec ℕ Global)) → List (List (List ℕ))
 contents hunks = map merge_contents hunks
 

@@ -117,9 +117,12 @@ pub fn merge(
     inputs: &Merge<&[u8]>,
     options: &MergeOptions,
 ) -> Result<Merge<Vec<u8>>, AllocError>
+    // The terms are those of hunks that are outcomes of rows of whole lines, whose columns, joined,
+    // are the inputs.
     ensures merge { IfOk result (λ merged. (hunks : List (List (List ℕ)))
         × IsContentMerge options.now.hunk_level options.now.same_change (bytes_of inputs.now) hunks
         × (merge_contents merged ≡ merged_terms (length inputs.now) hunks)) }
+    // If the whole contents resolve to a value, this is the result.
     ensures whole { IfOk result (λ merged. (v : List ℕ)
         → ResolvesTo bytes_eq options.now.same_change (bytes_of inputs.now) v
         → merge_contents merged ≡ v ∷ []) }
@@ -140,9 +143,12 @@ pub fn try_merge(
     inputs: &Merge<&[u8]>,
     options: &MergeOptions,
 ) -> Result<Option<Vec<u8>>, AllocError>
+    // The result is that of hunks that are outcomes of rows of whole lines, whose columns, joined,
+    // are the inputs; `None` if a hunk is a conflict.
     ensures merge { IfOk result (λ merged. (hunks : List (List (List ℕ)))
         × IsContentMerge options.now.hunk_level options.now.same_change (bytes_of inputs.now) hunks
         × (option_map (λ text. text.items) merged ≡ tried_outcome hunks)) }
+    // If the whole contents resolve to a value, this is the result.
     ensures whole { IfOk result (λ merged. (v : List ℕ)
         → ResolvesTo bytes_eq options.now.same_change (bytes_of inputs.now) v
         → option_map (λ text. text.items) merged ≡ Some v) }

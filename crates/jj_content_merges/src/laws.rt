@@ -34,8 +34,10 @@ pub fn side_laws()
 
 /// A merge of three terms resolves to the side that changed, if the other one did not.
 pub fn change_laws()
+    // If the left side equals the base, the merge resolves to the right side.
     ensures right { (same : SameChange) (left base right : List ℕ) → left ≡ base
         → ResolvesTo bytes_eq same (left ∷ base ∷ right ∷ []) right }
+    // If the right side equals the base, the merge resolves to the left side.
     ensures left { (same : SameChange) (left base right : List ℕ) → base ≡ right
         → ResolvesTo bytes_eq same (left ∷ base ∷ right ∷ []) left }
 {}

@@ -121,7 +121,7 @@ pub record Reads (text : List ℕ) (s t : Applying) : Type 0 where
       → fold run_line (Ok s) (patch_lines n (split_lines (text ++ rest)))
       ≡ fold run_line (Ok t) (patch_lines (number n) (split_lines rest))
 
--- the string and what follows it do not begin with a note
+-- neither the string nor the rest after it begins with a note
 abbrev pub NoNote : List ℕ → Type 0
 NoNote text = (rest : List ℕ) → is_note rest ≡ false → is_note (text ++ rest) ≡ false
 

@@ -29,11 +29,11 @@ abbrev pub number_of_len : ℕ → List ℕ → Option (ℕ × List ℕ)
 number_of_len len text =
     if len == 0 || nat_lt 19 len then None else Some (digits_after 0 (take len text), drop len text)
 
--- a number of at most 19 digits, and what follows it
+-- a number of at most 19 digits, and the bytes after it
 abbrev pub number : List ℕ → Option (ℕ × List ℕ)
 number text = number_of_len (prefix_len is_ascii_digit text) text
 
--- the number of the first line, the number of lines and what follows them
+-- the number of the first line, the number of lines and the bytes after them
 pub record RangeAt : Type 0 where
   pub start : ℕ
   pub len : ℕ

@@ -23,6 +23,7 @@ abbrev pub content_of : Option FileVersion → List ℕ
 content_of None = []
 content_of (Some version) = version.content.now
 
+-- the mode is that of a file, executable or not
 abbrev pub is_regular : FileMode → Bool
 is_regular Normal = true
 is_regular Executable = true

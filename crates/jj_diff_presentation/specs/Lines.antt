@@ -7,6 +7,7 @@ abbrev pub prepended : ℕ → List (List ℕ) → List (List ℕ)
 prepended b [] = (b ∷ []) ∷ []
 prepended b (line ∷ lines) = (b ∷ line) ∷ lines
 
+-- the lines of a byte string, each with its LF
 abbrev pub split_lines : List ℕ → List (List ℕ)
 split_lines [] = []
 split_lines (b ∷ bs) = if b == 10 then (b ∷ []) ∷ split_lines bs else prepended b (split_lines bs)

@@ -20,10 +20,12 @@ type_byte Added = 43
 abbrev pub note : List ℕ
 note = 92 ∷ codes " No newline at end of file\n"
 
+-- a line of a hunk: a byte for its type, its content, and a note if it has no LF
 abbrev pub line_text : DiffLineType → List ℕ → List ℕ
 line_text line_type content =
     type_byte line_type ∷ (if is_terminated content then content else content ++ 10 ∷ note)
 
+-- the lines of a hunk, one after the other
 abbrev pub lines_text : List DiffLine → List ℕ
 lines_text [] = []
 lines_text (l ∷ ls) = line_text l.line_type l.content.now ++ lines_text ls
@@ -33,10 +35,12 @@ abbrev pub range_text : ℕ → ℕ → List ℕ
 range_text start len = decimal (if len == 0 then start else start + 1)
     ++ (if len == 1 then [] else 44 ∷ decimal len)
 
+-- the first line of a hunk: the ranges of lines of both versions
 abbrev pub header_text : Range ℕ → Range ℕ → List ℕ
 header_text left right = codes "@@ -" ++ range_text left.start (left.end - left.start)
     ++ codes " +" ++ range_text right.start (right.end - right.start) ++ codes " @@\n"
 
+-- the lines of all hunks, each after its header
 abbrev pub hunks_text : List UnifiedDiffHunk → List ℕ
 hunks_text [] = []
 hunks_text (h ∷ hs) =

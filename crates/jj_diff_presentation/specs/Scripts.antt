@@ -31,11 +31,13 @@ abbrev pub right_lines : List DiffLine → List (List ℕ)
 right_lines [] = []
 right_lines (l ∷ ls) = on_right l.line_type (l.content.now ∷ []) ++ right_lines ls
 
+-- the type is that of a line in both versions
 abbrev pub is_context_type : DiffLineType → Bool
 is_context_type Context = true
 is_context_type Removed = false
 is_context_type Added = false
 
+-- the line is in both versions
 abbrev pub is_context : DiffLine → Bool
 is_context line = is_context_type line.line_type
 

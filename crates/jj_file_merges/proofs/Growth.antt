@@ -1,4 +1,4 @@
--- Files that are added to a store change nothing that was said of its files.
+-- Relations of a store and its files are preserved when files are added.
 use Rattle.std.proofs.Common.{◌≡◌, ◌∙◌, inl, inr, ℕ, Bool, true, false, List, Option, Some, None, refl, sym, ap, subst, map}
 use Rattle.std.specs.Prelude.{MatchOption}
 use Rattle.std.specs.Str.{bytes_eq}

@@ -7,6 +7,7 @@ use Rattle.jj_backend.specs.declared.backend.tree_value.TreeValue.{TreeValue}
 use Rattle.jj_backend.specs.declared.backend.tree_value.TreeValue.TheVariants.{File, Symlink, Tree, GitSubmodule}
 use Rattle.jj_file_merges.specs.declared.terms.FileTerm.{FileTerm}
 
+-- the id, executable bit and copy id of a file, none for another value
 abbrev pub file_term : Option TreeValue → Option FileTerm
 file_term None = None
 file_term (Some (File id executable copy_id)) =

@@ -73,6 +73,7 @@ IsMarkingError files may_fail values e =
     ⊎ ((ids : List (Option (List ℕ))) × (parts file_id_of values ≡ Some ids)
     × IsTermsError files may_fail ids e)
 
+-- the value is an executable file
 abbrev pub is_executable : Option TreeValue → Bool
 is_executable None = false
 is_executable (Some (File id executable copy_id)) = executable
@@ -80,5 +81,6 @@ is_executable (Some (Symlink id)) = false
 is_executable (Some (Tree id)) = false
 is_executable (Some (GitSubmodule id)) = false
 
+-- a side of the merge is an executable file
 abbrev pub has_executable_side : Values → Bool
 has_executable_side values = list_any is_executable (adds values)

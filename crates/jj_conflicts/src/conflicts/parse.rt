@@ -130,6 +130,7 @@ pub fn parse_hunks(
     num_sides: usize,
     expected_marker_len: usize,
 ) -> Result<Vec<Merge<Vec<u8>>>, AllocError>
+    // The hunks are those that the state machine over the lines finds.
     ensures { IfOk result (λ hunks.
         contents hunks.items ≡ parsed expected_marker_len num_sides input.now) }
 {

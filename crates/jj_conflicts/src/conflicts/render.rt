@@ -329,6 +329,7 @@ pub fn materialize(
     style: ConflictMarkerStyle,
     marker_len: usize,
 ) -> Result<Vec<u8>, AllocError>
+    // The string is a rendering of the hunks in this style, with these labels.
     ensures { IfOk result (λ text. IsRendered style marker_len
         (labels_as_merge labels.now) (contents hunks.now) text.items) }
 {

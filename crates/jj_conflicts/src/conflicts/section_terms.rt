@@ -31,7 +31,7 @@ fn has_terms(num_sides: usize, count: usize) -> bool
     count % 2 == 1 && count / 2 + 1 == num_sides
 }
 
-// Whether a section with this marker may follow so many terms: one side is shown as it is.
+// Whether a section with this marker may follow so many terms: one side is verbatim.
 fn is_still_valid(is_valid: bool, byte: u8, count: usize) -> bool
     ensures { result ≡ (is_valid && not (byte == 43 && is_odd count)) }
 {

@@ -1,4 +1,4 @@
-//! Hunks of a merge of contents, and what they are together.
+//! Hunks of a merge of contents, and their concatenation.
 ghost use Rattle.std.specs.Prelude.{◌≡◌, ◌∷◌, [], length, map, IfOk};
 ghost use Rattle.std.specs.List.{range_with_len};
 ghost use Rattle.jj_diff.specs.Inputs.{bytes_of};

@@ -141,7 +141,7 @@ fn push_version_line(
     text.extend_from_slice(b"/dev/null\n")
 }
 
-// Appends the unified diff of two contents; `is_before` and `is_after` say which of them are there.
+// Appends the unified diff of two contents; `is_before` and `is_after`: which of them exist.
 fn push_contents(
     alloc: Global,
     text: &mut Vec<u8>,
@@ -214,7 +214,7 @@ fn push_versions(
 /// change, as `git diff --no-renames` writes it without `index` lines; `git apply` takes it unless
 /// a content is binary. A file that is absent before is new, one that is absent after is deleted,
 /// and a change of the type is a deletion and an addition. Contents with a NUL in their first 8,000
-/// bytes are binary, and said to differ. Appends nothing for equal versions.
+/// bytes are binary, and only reported to differ. Appends nothing for equal versions.
 pub fn push_git_diff(
     alloc: Global,
     text: &mut Vec<u8>,

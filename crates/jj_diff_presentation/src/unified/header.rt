@@ -5,14 +5,14 @@ ghost use Rattle.std.specs.List.{prefix_len, list_all};
 ghost use Rattle.jj_diff_presentation.specs.Applying.{digits_after, number, range, header, lines_before, len_after, right_after};
 ghost use Rattle.jj_diff_presentation.specs.Views.{number_view, range_view, header_view};
 
-// A number and what follows it.
+// A number and the bytes after it.
 #[derive(Drop)]
 struct ParsedNumber<'a> {
     value: usize,
     rest: &'a [u8],
 }
 
-// The first line of a range, its number of lines, and what follows them.
+// The first line of a range, its number of lines, and the bytes after them.
 #[derive(Drop)]
 struct ParsedRange<'a> {
     start: usize,

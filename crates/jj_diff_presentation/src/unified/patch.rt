@@ -27,8 +27,8 @@ pub enum ExpectedInPatch {
     LeftLine,
 }
 
-/// The first line of a patch, counted from 1, that differs from what was expected. It is one more
-/// than the number of lines if the patch ends early.
+/// The first line of a patch, counted from 1, that is not the expected one. It is one more than the
+/// number of lines if the patch ends early.
 #[derive(Copy, Clone, Debug, PartialEq, Eq, Drop)]
 pub struct PatchFault {
     pub line: usize,
