@@ -18,7 +18,7 @@ use Rattle.jj_merges.specs.declared.merge.SameChange.{SameChange}
 use Rattle.jj_core_c.specs.MergeResults.{same_change}
 use Rattle.jj_core_c.specs.TextMerges.{IsMaterialized, IsMerged, hunk_level, marker_style}
 
--- The option is the outcome of a merge, and what whole terms resolve to.
+-- The option is the outcome of a merge, and the result to which whole terms resolve.
 abbrev Tried : FileMergeHunkLevel → SameChange → List (List ℕ) → Option (Vec ℕ Global) → Type 0
 Tried level same inputs merged =
     ((hunks : List (List (List ℕ))) × IsContentMerge level same inputs hunks × (option_map (λ text. text.items) merged ≡ tried_outcome hunks))

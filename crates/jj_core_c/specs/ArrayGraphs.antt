@@ -23,6 +23,7 @@ AreBelow n nodes = All (λ node. node < n) nodes
 abbrev pub AreArrays : (targets ends : List ℕ) → Type 0
 AreArrays targets ends = (are_ends (length targets) ends ≡ true) × AreBelow (length ends) targets
 
+-- the arrays are those of a graph without cycles
 abbrev pub IsAcyclicGraph : (targets ends : List ℕ) → Type 0
 IsAcyclicGraph targets ends = AreArrays targets ends × (¬ (HasCycle (graph_of targets ends)))
 
@@ -48,7 +49,7 @@ IsGraphCause targets ends Node = ¬ (AreBelow (length ends) targets)
 IsGraphCause targets ends Cycle = HasCycle (graph_of targets ends)
 IsGraphCause targets ends other = ⊥
 
--- or the starts are no nodes, or the buffer has no room for a result
+-- the arrays are no acyclic graph, the starts are no nodes, or the buffer has no room for a result
 abbrev pub IsWalkCause : (targets ends : List ℕ) (AreStarts : Type 0)
     (IsResult : List ℕ → Type 0) (room : ℕ) → Error → Type 0
 IsWalkCause targets ends AreStarts IsResult room Memory = ⊤

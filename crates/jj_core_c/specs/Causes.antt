@@ -10,7 +10,7 @@ abbrev pub IsLengthCause : (size room : ℕ) → Error → Type 0
 IsLengthCause size room Length = room < size
 IsLengthCause size room other = ⊥
 
--- or memory ran out
+-- the buffer is too short, or memory ran out
 abbrev pub IsBufferCause : (size room : ℕ) → Error → Type 0
 IsBufferCause size room Memory = ⊤
 IsBufferCause size room Length = room < size

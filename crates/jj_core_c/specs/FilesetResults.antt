@@ -32,6 +32,7 @@ IsExpressionCause expression Memory = ⊤
 IsExpressionCause expression Expression = IsNoExpression expression
 IsExpressionCause expression other = ⊥
 
+-- the cause of an error: the argument that it rejects, or memory ran out
 abbrev pub IsFilesetCause : (expression bytes ends : List ℕ) (room : ℕ) → Error → Type 0
 IsFilesetCause expression bytes ends room Memory = ⊤
 IsFilesetCause expression bytes ends room Ends = are_ends (length bytes) ends ≡ false

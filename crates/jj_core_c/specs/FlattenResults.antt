@@ -33,6 +33,7 @@ IsTermsCause IsValid Memory = ⊤
 IsTermsCause IsValid Terms = ¬ IsValid
 IsTermsCause IsValid other = ⊥
 
+-- the cause of an error: the argument that it rejects, or memory ran out
 abbrev pub IsFlattenCause : (ends : List ℕ) (room : ℕ) → Error → Type 0
 IsFlattenCause ends room Memory = ⊤
 IsFlattenCause ends room Ends = are_ends (term_count ends) ends ≡ false

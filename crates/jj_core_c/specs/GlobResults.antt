@@ -35,6 +35,7 @@ IsParseCause glob Memory = ⊤
 IsParseCause glob Syntax = IsMalformed glob
 IsParseCause glob other = ⊥
 
+-- the cause of an error: the argument that it rejects, or memory ran out
 abbrev pub IsGlobCause : List ℕ → (len : ℕ) (ends : List ℕ) (room : ℕ) → Error → Type 0
 IsGlobCause glob len ends room Memory = ⊤
 IsGlobCause glob len ends room Ends = are_ends len ends ≡ false

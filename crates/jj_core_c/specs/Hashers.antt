@@ -25,6 +25,6 @@ abbrev pub IsDigest : Blake2b512 → List ℕ → Type 0
 IsDigest hasher digest = (length digest ≡ 64)
     × ((message : List ℕ) → HasAbsorbed hasher message → digest ≡ blake2b message)
 
--- such a digest is written
+-- the digest of every message that the hasher has absorbed is written to the buffer
 abbrev pub WritesDigest : Blake2b512 → (old new : List ℕ) → ℕ → Type 0
 WritesDigest hasher old new n = (digest : List ℕ) × IsDigest hasher digest × Writes old new digest n

@@ -19,6 +19,7 @@ abbrev pub WritesDecoded : (digits text old new : List ℕ) → ℕ → Type 0
 WritesDecoded digits text old new n = (bytes : List ℕ) × DecodesTo digits text bytes
     × Writes old new bytes n
 
+-- the cause of an error of decoding: the argument that it rejects, or memory ran out
 abbrev pub IsDecodingCause : (digits text : List ℕ) (room : ℕ) → Error → Type 0
 IsDecodingCause digits text room Memory = ⊤
 IsDecodingCause digits text room Length = room < length text / 2
@@ -35,6 +36,7 @@ abbrev pub ReportsPrefix : (digits prefix id : List ℕ) → ℕ → Type 0
 ReportsPrefix digits prefix id n = (is_hex digits prefix ≡ true)
     × (n ≡ (if begins_with digits id prefix then 1 else 0))
 
+-- the cause of an error of parsing a prefix: the argument that it rejects, or memory ran out
 abbrev pub IsPrefixCause : (digits prefix : List ℕ) → Error → Type 0
 IsPrefixCause digits prefix Memory = ⊤
 IsPrefixCause digits prefix Syntax = is_hex digits prefix ≡ false

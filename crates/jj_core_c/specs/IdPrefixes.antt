@@ -48,6 +48,7 @@ resolved digits prefix ids = resolution (λ id. begins_with digits id prefix) id
 abbrev pub FindsOnly : (digits prefix : List ℕ) → List (List ℕ) → ℕ → Type 0
 FindsOnly digits prefix ids index = resolved digits prefix ids ≡ SingleMatch index
 
+-- the cause of an error: the argument that it rejects, or memory ran out
 abbrev pub IsResolveCause : (digits prefix ids ends : List ℕ) → Error → Type 0
 IsResolveCause digits prefix ids ends Memory = ⊤
 IsResolveCause digits prefix ids ends Ends = are_ends (length ids) ends ≡ false

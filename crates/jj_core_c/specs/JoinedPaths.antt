@@ -15,6 +15,7 @@ IsPath bytes = IsUtf8 bytes × IsTrue (paths.is_path_string bytes)
 abbrev pub ArePaths : (bytes ends : List ℕ) → Type 0
 ArePaths bytes ends = All IsPath (pieces_of bytes ends)
 
+-- the ends divide the bytes, and each piece is the string of a path
 abbrev pub AreJoinedPaths : (bytes ends : List ℕ) → Type 0
 AreJoinedPaths bytes ends = (are_ends (length bytes) ends ≡ true) × ArePaths bytes ends
 

@@ -26,6 +26,7 @@ abbrev pub ResolvesAt : SameChange → List (List ℕ) → ℕ → Type 0
 ResolvesAt same_change terms index = (term : List ℕ) × (slice_get terms index ≡ Some term)
     × ResolvesTo bytes_eq same_change terms term
 
+-- the cause of an error of simplifying: the argument that it rejects, or memory ran out
 abbrev pub IsSimplifyCause : (bytes ends : List ℕ) (room : ℕ) → Error → Type 0
 IsSimplifyCause bytes ends room Memory = ⊤
 IsSimplifyCause bytes ends room Ends = are_ends (length bytes) ends ≡ false
@@ -34,6 +35,7 @@ IsSimplifyCause bytes ends room Length =
 IsSimplifyCause bytes ends room Terms = length ends % 2 ≡ 0
 IsSimplifyCause bytes ends room other = ⊥
 
+-- the cause of an error of resolving: the rejected argument, a conflict, or memory ran out
 abbrev pub IsResolveCause : SameChange → (bytes ends : List ℕ) → Error → Type 0
 IsResolveCause same_change bytes ends Memory = ⊤
 IsResolveCause same_change bytes ends Ends = are_ends (length bytes) ends ≡ false

@@ -24,11 +24,11 @@ abbrev pub status_of : Result ℕ Error → ℤ
 status_of (Ok n) = pos n
 status_of (Err error) = code_of error
 
--- the status represents a result n of which P holds, or an error of which Q holds
+-- the status represents a result n with P n, or an error e with Q e
 abbrev pub Returns : ℤ → (ℕ → Type 0) → (Error → Type 0) → Type 0
 Returns status P Q = (outcome : Result ℕ Error) × (status ≡ status_of outcome)
     × MatchResult outcome P Q
 
--- the arguments of the call are valid, and P holds of the number
+-- the arguments of the call are valid, and the number has property P
 abbrev pub Accepts : (IsValid : Type 0) → (ℕ → Type 0) → ℕ → Type 0
 Accepts IsValid P n = IsValid × P n

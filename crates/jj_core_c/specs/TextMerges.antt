@@ -48,6 +48,7 @@ abbrev pub WritesMerged : (words accept : Bool) → List (List ℕ) → (old new
 WritesMerged words accept terms old new n = (text : List ℕ)
     × IsMerged words accept terms text × Writes old new text n
 
+-- the cause of an error of a merge: the rejected argument, a conflict, or memory ran out
 abbrev pub IsContentsCause : (words accept : Bool) → (bytes ends : List ℕ) → (room : ℕ) → Error
     → Type 0
 IsContentsCause words accept bytes ends room Memory = ⊤
@@ -78,6 +79,7 @@ abbrev pub WritesMaterialized : (git accept : Bool) → List (List ℕ) → (old
 WritesMaterialized git accept terms old new n = (text : List ℕ)
     × IsMaterialized git accept terms text × Writes old new text n
 
+-- the cause of an error of rendering: the argument that it rejects, or memory ran out
 abbrev pub IsMaterializeCause : (git accept : Bool) → (bytes ends : List ℕ) → (room : ℕ) → Error
     → Type 0
 IsMaterializeCause git accept bytes ends room Memory = ⊤

@@ -50,10 +50,12 @@ WritesWalk prefixes listed files old new n = CountsEntered prefixes listed files
     × ((flags : List Bool) × AreFoundFlags prefixes listed files flags
     × Writes old new flags (length files))
 
+-- both lists of paths are valid
 abbrev pub AreTreeWalkArguments : (listed listed_ends bytes ends : List ℕ) → Type 0
 AreTreeWalkArguments listed listed_ends bytes ends = AreJoinedPaths listed listed_ends
     × AreJoinedPaths bytes ends
 
+-- the cause of an error of a walk: the argument that it rejects, or memory ran out
 abbrev pub IsTreeWalkCause : (listed listed_ends bytes ends : List ℕ) (room : ℕ) → Error → Type 0
 IsTreeWalkCause listed listed_ends bytes ends room Memory = ⊤
 IsTreeWalkCause listed listed_ends bytes ends room Ends =

@@ -94,6 +94,7 @@ pub extern "C" fn jj_hasher_start(hasher: &mut JjHasher)
 /// Does not allocate.
 #[unsafe(no_mangle)]
 pub extern "C" fn jj_hasher_update(hasher: &mut JjHasher, bytes: &[u8])
+    // The hasher has absorbed its old message and then these bytes.
     ensures { Absorbs HasAbsorbed (hasher_of hasher.old) (hasher_of hasher.new) bytes.now }
 {
     let mut absorbing = load_hasher(hasher);
@@ -106,6 +107,7 @@ pub extern "C" fn jj_hasher_update(hasher: &mut JjHasher, bytes: &[u8])
 /// Errors: `Length`. Does not allocate.
 #[unsafe(no_mangle)]
 pub extern "C" fn jj_hasher_finish(hasher: &JjHasher, digest: &mut [u8]) -> i64
+    // The digest of the absorbed message is written and 64 returned; a shorter buffer is an error.
     ensures { Returns result (WritesDigest (hasher_of hasher.now) digest.old digest.new)
         (Fails digest.old digest.new (IsLengthCause 64 (length digest.old))) }
 {

@@ -41,7 +41,7 @@ fn status_of<T: Drop, E: Drop>(written: Result<T, E>) -> ExitCode {
     }
 }
 
-// Prints the help or the version if a word asks for it.
+// Prints the help or the version if an argument requests it.
 fn printed(rt: &HostRuntime, words: &[String]) -> Option<ExitCode> {
     for word in words {
         match word.as_str() {

@@ -108,7 +108,7 @@ error_narrow v w c bytes start (Malformed reason offset) p n =
       within = n.within;
     }
 
--- an error that says nothing about the bytes
+-- an error that implies nothing about the bytes
 pub memory_error : {X : Type 0} (v : X → Type 0) (c : X → List ℕ) (bytes : List ℕ) (start : ℕ)
     (e : DecodeError) → IsMemory e → IsErrorAt v c bytes start e
 memory_error v c bytes start Memory m = tt

@@ -25,12 +25,14 @@ pub record AreContents {X : Type 0} (is_value : X → Type 0) (content : X → L
 
 -- ---- by type, from the contents of the parts
 
+-- the contents of pairs, from those of both parts
 abbrev pub BothContents : (List ℕ → Type 0) → (List ℕ → Type 0) → List ℕ → Type 0
 BothContents first second = IsContentOf (AreBoth first second) (both_content (λ b. b) (λ b. b))
 
 abbrev pub OptionContents : (List ℕ → Type 0) → List ℕ → Type 0
 OptionContents is_content = IsContentOf (IsOptionOf is_content) (option_content (λ b. b))
 
+-- the contents of lists whose items have these contents
 abbrev pub ListContents : (List ℕ → Type 0) → List ℕ → Type 0
 ListContents is_content = IsContentOf (AreValues is_content) (list_content (λ b. b))
 

@@ -43,6 +43,7 @@ IsMemory (Malformed reason offset) = ⊥
 
 -- ---- pairs
 
+-- each part of the pair has its property
 abbrev pub AreBoth : {X Y : Type 0} → (X → Type 0) → (Y → Type 0) → X × Y → Type 0
 AreBoth first second p = first p.0 × second p.1
 
@@ -74,14 +75,17 @@ IsGreater cmp ks k = AllByRecursion (λ q. cmp q k ≡ Less) ks
 abbrev pub IsCounted : ℕ × List ℕ → Type 0
 IsCounted p = (p.0 < 2 ^ 64) × (p.0 ≤ length p.1)
 
+-- the content of a count, then the bytes
 abbrev pub counted_content : ℕ × List ℕ → List ℕ
 counted_content p = u64_content p.0 ++ p.1
 
 -- ---- strings: the length in bytes, then the bytes
 
+-- the length of the bytes fits 64 bits
 abbrev pub FitsLength : List ℕ → Type 0
 FitsLength bytes = length bytes < 2 ^ 64
 
+-- the bytes are UTF-8, and their length fits 64 bits
 abbrev pub IsString : List ℕ → Type 0
 IsString bytes = IsUtf8 bytes × (length bytes < 2 ^ 64)
 

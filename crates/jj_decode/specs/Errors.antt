@@ -1,6 +1,6 @@
 -- The errors of reading a value, by type: relations between the bytes, the offset of the value, and
--- the error, which names the first part that the bytes lack. Memory may run out only for what the
--- bytes announce and can hold.
+-- the error, which names the first part that the bytes lack. Memory may run out only for items that
+-- the bytes announce and are long enough for.
 -- Cited by contracts of public items: BoolErrors, BothErrors, BytesErrors, CountErrors,
 -- IntegerErrors, ItemErrors, ListErrors, MapErrors, MergeErrors, NoErrors, OptionErrors, SetErrors,
 -- StrErrors, StringErrors, TextErrors, VariantErrors, WholeErrors.
@@ -36,17 +36,20 @@ pub record HasExcessAt (bytes : List ℕ) (start : ℕ) : Type 0 where
   pub is_count : IsContentAt (λ n. n < 2 ^ 64) u64_content bytes start count end
   pub exceeds : length bytes < end + count
 
+-- the errors of reading a count: too few bytes for it, or for so many items
 abbrev pub CountErrors : List ℕ → ℕ → DecodeError → Type 0
 CountErrors bytes start e = IntegerErrors 8 bytes start e
     ⊎ (HasExcessAt bytes start × (e ≡ Malformed Truncated start))
 
 -- ---- strings: the bytes that a count announces are there, but are not UTF-8, or memory runs out
 
+-- the errors of reading a byte string: those of its count, or memory ran out
 abbrev pub BytesErrors : List ℕ → ℕ → DecodeError → Type 0
 BytesErrors bytes start e = CountErrors bytes start e
     ⊎ ((text : List ℕ) × (end : ℕ) × IsContentAt FitsLength string_content bytes start text end
     × (e ≡ Memory))
 
+-- the errors of checking a string: those of its count, or the bytes are not UTF-8
 abbrev pub StrErrors : List ℕ → ℕ → DecodeError → Type 0
 StrErrors bytes start e = CountErrors bytes start e
     ⊎ ((text : List ℕ) × (end : ℕ) × IsContentAt FitsLength string_content bytes start text end
@@ -65,6 +68,7 @@ TextErrors is_valid bytes start e = StringErrors bytes start e
 
 -- ---- two values: an error of the first, or of the second after the first
 
+-- the errors of reading two values: those of the first, or of the second after the first
 abbrev pub BothErrors : {X : Type 0} → (X → Type 0) → (X → List ℕ)
     → (List ℕ → ℕ → DecodeError → Type 0) → (List ℕ → ℕ → DecodeError → Type 0)
     → List ℕ → ℕ → DecodeError → Type 0
@@ -102,13 +106,14 @@ pub record IsCountAt (bytes : List ℕ) (start count end : ℕ) : Type 0 where
   pub is_count : IsContentAt (λ n. n < 2 ^ 64) u64_content bytes start count end
   pub bounded : end + count ≤ length bytes
 
--- after a count that the remaining bytes can hold: memory runs out, or an error of its items
+-- after a count for which the remaining bytes suffice: memory runs out, or an error of its items
 abbrev pub CountedErrors : (ℕ → List ℕ → ℕ → DecodeError → Type 0) → List ℕ → ℕ → DecodeError
     → Type 0
 CountedErrors items bytes start e = CountErrors bytes start e
     ⊎ ((count : ℕ) × (end : ℕ) × IsCountAt bytes start count end
     × ((e ≡ Memory) ⊎ items count bytes end e))
 
+-- the errors of reading a list: those of its count, of an item, or memory ran out
 abbrev pub ListErrors : {X : Type 0} → (X → Type 0) → (X → List ℕ)
     → (List ℕ → ℕ → DecodeError → Type 0) → List ℕ → ℕ → DecodeError → Type 0
 ListErrors is_value content errors =
@@ -157,6 +162,7 @@ SetErrors cmp is_value content errors = CountedErrors (MemberErrors cmp is_value
 
 -- ---- whole byte strings: an error of the value, or bytes after it
 
+-- the errors of decoding all bytes: those of reading the value, or bytes are left after it
 abbrev pub WholeErrors : {X : Type 0} → (X → Type 0) → (X → List ℕ)
     → (List ℕ → ℕ → DecodeError → Type 0) → List ℕ → DecodeError → Type 0
 WholeErrors {X} is_value content errors bytes e = errors bytes 0 e

@@ -28,7 +28,7 @@ abbrev pub FileContents : List ℕ → Type 0
 FileContents = BothContents BytesContents
     (BothContents (IsContentOf (λ _. ⊤) bool_content) BytesContents)
 
--- by the variant's number
+-- the contents of the fields of a tree value, by the variant's number
 abbrev pub FieldsContents : ℕ → List ℕ → Type 0
 FieldsContents zero = FileContents
 FieldsContents (suc n) = BytesContents

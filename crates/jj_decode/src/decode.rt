@@ -18,7 +18,7 @@ pub fn decode_content<T: ReadContent>(alloc: Global, bytes: &[u8]) -> Result<T, 
     ensures complete { (x : T) → T.is_value x → bytes.now ≡ T.content x
         → DecodesTo (T.eq x) result }
     // An error names the first part that the bytes lack, or the first byte after the value. Memory
-    // runs out only for what the bytes announce and can hold.
+    // runs out only for items that the bytes announce and are long enough for.
     ensures error { IfErr result (WholeErrors T.is_value T.content T.errors bytes.now) }
 {
     let (value, end) = T::read(alloc, bytes, 0)?;
@@ -33,6 +33,7 @@ pub fn decode_content<T: ReadContent>(alloc: Global, bytes: &[u8]) -> Result<T, 
 
 /// Encodes a value and decodes the content: the result is an equal value, or memory ran out.
 pub fn decode_encoded<T: ReadContent>(alloc: Global, value: &T) -> Result<T, DecodeError>
+    // The result is an equal value, or memory ran out.
     ensures { DecodesTo (T.eq value.now) result }
 {
     let bytes = content_of(alloc, value)?;

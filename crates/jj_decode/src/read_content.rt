@@ -24,15 +24,16 @@ pub trait ReadContent: ContentHash + Drop {
     ghost is_content: { List ℕ → Type 0 };
 
     /// The errors of reading a value, by the bytes and the offset of the value in them: the first
-    /// part that the bytes lack, or `Memory` for what they announce and can hold.
+    /// part that the bytes lack, or `Memory` for items that they announce and are long enough for.
     ghost errors: { List ℕ → ℕ → ErrorValue → Type 0 };
 
     /// Reads a value whose content begins at `start`. Returns it and the offset after its content.
     /// Returns `DecodeError::Malformed` only if no content of the type begins there. Linear in the
     /// bytes read, apart from maps and sets; recursion is as deep as the type is nested, whatever
     /// the bytes are. A count is checked against the number of remaining bytes before memory is
-    /// allocated for what it counts.
+    /// allocated for the items.
     fn read(alloc: Global, bytes: &[u8], start: usize) -> Result<(Self, usize), DecodeError>
+        // The offset is within the bytes.
         requires { start ≤ length bytes.now }
         // The bytes from `start` to the offset returned are the content of the value.
         ensures decoded { IfOk result (λ decoded.

@@ -44,7 +44,7 @@ fn check<T: ReadContent, R: Abort>(rt: &R, alloc: Global, value: &T) -> Result<(
     Ok(())
 }
 
-// Checks a value that it drops. A test that kept the value would drop it on each of its paths, and
+// Checks a value and drops it. If the caller owned the value, each of its paths would drop it, and
 // each drop is proved.
 fn check_value<T: ReadContent, R: Abort>(rt: &R, alloc: Global, value: T) -> Result<(), Fail> {
     check(rt, alloc, &value)

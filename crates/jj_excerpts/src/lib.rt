@@ -14,9 +14,10 @@ pub const MAX_CHARACTERS: usize = 60;
 const MAX_BYTES: usize = 240;
 
 /// Returns the byte string in double quotes: at most its first `MAX_CHARACTERS` characters, escaped
-/// as by `format_string`, with U+FFFD for what is not UTF-8. Three dots after the quotes mean that
-/// there is more.
+/// as by `format_string`, with U+FFFD for bytes that are not UTF-8. Three dots after the quotes
+/// mean that there is more.
 pub fn excerpt(alloc: Global, bytes: &[u8]) -> Result<String, AllocError>
+    // The string is the excerpt of these bytes: their first characters in double quotes, escaped.
     ensures { IfOk result (λ quoted. string_bytes quoted ≡ excerpt_of bytes.now) }
 {
     let prefix = first_characters(bytes);

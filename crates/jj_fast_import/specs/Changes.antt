@@ -67,8 +67,8 @@ modified_of text =
     and_then (split_once 32 first.1) (λ second.
     and_then (last_path second.1) (λ path. Some (mode, second.0, path)))))
 
--- 2. Lines. `left` is the number of bytes from the start of the line on, `text` follows the first
--- word, and `rest` are the bytes after the line.
+-- 2. Lines. `left` is the number of bytes from the start of the line to the end of the input. The
+-- next argument is the line after its first word, and `rest` are the bytes after the line.
 
 abbrev pub content_by : Bool → Bool → Expected → ℕ → List ℕ → List ℕ
     → Result (ContentValue × List ℕ) Stop

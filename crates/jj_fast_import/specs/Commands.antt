@@ -182,8 +182,8 @@ reset_at at_end ref_name bytes = do
   rest ← skip_lf at_end from.1
   Ok (Resets ref_name from.0, rest)
 
--- 3. Commands by their first lines: the line `text`, which has `left` bytes from its start on, and
--- the bytes after it.
+-- 3. Commands by their first lines: the line, the number `left` of bytes from its start to the end
+-- of the input, and the bytes after the line.
 
 unfoldable pub other_in : Bool → ℕ → List ℕ → List ℕ → Result (CommandValue × List ℕ) Stop
 other_in at_end left text rest =

@@ -1,5 +1,5 @@
 -- Lines, comments and blocks of data. A reading function returns what it read and the bytes after
--- it, or why it stopped. `at_end` says that the stream ends after the bytes.
+-- it, or why it stopped. `at_end`: the stream ends after the bytes.
 use Rattle.std.specs.Prelude.{◌≡◌, ℕ, ◌==◌, Bool, true, false, not, ◌&&◌, nat_eq, nat_lt, if◌then◌else◌, List, [], ◌∷◌, length, take, drop, Option, Some, None, Result, Ok, Err, codes}
 use Rattle.jj_fast_import.specs.declared.fault.Expected.{Expected}
 use Rattle.jj_fast_import.specs.declared.fault.Expected.TheVariants.{Data}
@@ -33,7 +33,7 @@ expect expected left (Some x) = Ok x
 
 -- 2. Lines.
 
--- the bytes after the lines that begin with `#`; `within` says that they begin within such a line
+-- the bytes after the lines that begin with `#`; `within`: they begin within such a line
 abbrev pub without_comments : Bool → List ℕ → List ℕ
 without_comments within [] = []
 without_comments within (b ∷ bs) =
@@ -97,8 +97,8 @@ abbrev pub or_else : Option (List ℕ) → Option (List ℕ × List ℕ) → Opt
 or_else (Some rest) more = Some ([], rest)
 or_else None more = more
 
--- the bytes before the first line that is the delimiter, and those after it; `is_start` says that
--- a line starts here
+-- the bytes before the first line that is the delimiter, and those after it; `is_start`: a line
+-- starts here
 abbrev pub until : List ℕ → Bool → List ℕ → Option (List ℕ × List ℕ)
 until delimiter is_start [] = None
 until delimiter is_start (b ∷ bs) =

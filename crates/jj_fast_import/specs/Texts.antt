@@ -91,6 +91,7 @@ note_text content commit =
     codes "N " ++ content_name content ++ 32 ∷ reference_text commit ++ 10 ∷ []
     ++ inline_text content
 
+-- the lines of a change
 abbrev pub change_text : ChangeValue → List ℕ
 change_text (Modifies mode content path) = modify_text mode content path
 change_text (Deletes path) = line (codes "D ") (path_text path)
@@ -99,6 +100,7 @@ change_text (Copies from to) = two_paths_text (codes "C ") from to
 change_text DeletesAll = codes "deleteall\n"
 change_text (Notes content commit) = note_text content commit
 
+-- the lines of a blob
 abbrev pub blob_text : BlobValue → List ℕ
 blob_text blob =
     codes "blob\n" ++ mark_text blob.mark ++ optional_text (codes "original-oid ") blob.original_oid
@@ -113,6 +115,7 @@ commit_head commit =
     ++ person_line_text (codes "committer ") commit.committer
     ++ optional_text (codes "encoding ") commit.encoding
 
+-- the lines of a commit
 abbrev pub commit_text : CommitValue → List ℕ
 commit_text commit =
     commit_head commit ++ data_text commit.message ++ from_text commit.from
@@ -128,6 +131,7 @@ tag_text tag =
 abbrev pub reset_text : List ℕ → Option ReferenceValue → List ℕ
 reset_text ref_name from = line (codes "reset ") ref_name ++ from_text from ++ 10 ∷ []
 
+-- the lines of a command
 abbrev pub command_text : CommandValue → List ℕ
 command_text (Blobs blob) = blob_text blob
 command_text (Commits commit) = commit_text commit

@@ -20,6 +20,7 @@ use Rattle.jj_fast_import.specs.declared.command.Command.TheVariants as commands
 abbrev pub bytes_of : Vec ℕ → List ℕ
 bytes_of v = v.items
 
+-- an author, committer or tagger with a time
 pub record PersonValue : Type 0 where
   pub name : Option (List ℕ)
   pub email : List ℕ
@@ -34,6 +35,7 @@ person_value p = record {
   zone = p.zone;
 }
 
+-- a reference to an object: by its mark or by its name
 pub data ReferenceValue : Type 0 where
   ByMark : ℕ → ReferenceValue
   ByName : List ℕ → ReferenceValue
@@ -42,6 +44,7 @@ abbrev pub reference_value : Reference → ReferenceValue
 reference_value (references.Mark mark) = ByMark mark
 reference_value (references.Name name) = ByName name.items
 
+-- the content of a change: a stored object, or the bytes themselves
 pub data ContentValue : Type 0 where
   Stored : ReferenceValue → ContentValue
   Inline : List ℕ → ContentValue
@@ -50,6 +53,7 @@ abbrev pub content_value : Content → ContentValue
 content_value (contents.Stored reference) = Stored (reference_value reference)
 content_value (contents.Inline data_bytes) = Inline data_bytes.items
 
+-- a change of a commit's tree
 pub data ChangeValue : Type 0 where
   Modifies : Mode → ContentValue → List ℕ → ChangeValue
   Deletes : List ℕ → ChangeValue
@@ -67,6 +71,7 @@ change_value changes.DeleteAll = DeletesAll
 change_value (changes.NoteModify content commit) =
     Notes (content_value content) (reference_value commit)
 
+-- a blob: its mark, its original id and its content
 pub record BlobValue : Type 0 where
   pub mark : Option ℕ
   pub original_oid : Option (List ℕ)
@@ -79,6 +84,7 @@ blob_value b = record {
   content = b.«data».items;
 }
 
+-- a commit command, with its changes
 pub record CommitValue : Type 0 where
   pub ref_name : List ℕ
   pub mark : Option ℕ
@@ -105,6 +111,7 @@ commit_value c = record {
   changes = map change_value c.changes.items;
 }
 
+-- a tag command
 pub record TagValue : Type 0 where
   pub name : List ℕ
   pub mark : Option ℕ
@@ -123,6 +130,7 @@ tag_value t = record {
   message = t.message.items;
 }
 
+-- a command of a stream
 pub data CommandValue : Type 0 where
   Blobs : BlobValue → CommandValue
   Commits : CommitValue → CommandValue
@@ -134,6 +142,7 @@ pub data CommandValue : Type 0 where
   Checkpoints : CommandValue
   Ends : CommandValue
 
+-- a command, as contracts see it
 abbrev pub command_value : Command → CommandValue
 command_value (commands.Blob blob) = Blobs (blob_value blob)
 command_value (commands.Commit commit) = Commits (commit_value commit)

@@ -87,8 +87,8 @@ fn two_paths(alloc: Global, text: &[u8]) -> Result<Option<(Vec<u8>, Vec<u8>)>, A
     }
 }
 
-// The content that `text` names in a line with `left` bytes from its start on; `inline` is a block
-// of data after the line.
+// The content that a field names; its line is `left` bytes before the end of the input. `inline` is
+// a block of data after the line.
 #[tactic(auto, unfolding(crate::specs::Changes::content_at))]
 fn content<'a>(
     alloc: Global,
@@ -132,7 +132,7 @@ fn modified(alloc: Global, text: &[u8]) -> Result<Option<(Mode, &[u8], Vec<u8>)>
     }
 }
 
-// `M MODE CONTENT PATH`: what follows `M `, and the bytes after the line.
+// `M MODE CONTENT PATH`, parsed after `M `; returns the bytes after the line too.
 #[tactic(auto, unfolding(crate::specs::Changes::modify_at))]
 fn modify<'a>(
     alloc: Global,
@@ -156,7 +156,7 @@ fn modify<'a>(
     Ok((change, rest))
 }
 
-// `D PATH`: what follows `D `.
+// `D PATH`, parsed after `D `.
 #[tactic(auto, unfolding(crate::specs::Changes::delete_at))]
 fn delete<'a>(
     alloc: Global,
@@ -173,7 +173,7 @@ fn delete<'a>(
     }
 }
 
-// `R FROM TO`: what follows `R `.
+// `R FROM TO`, parsed after `R `.
 #[tactic(auto, unfolding(crate::specs::Changes::rename_at))]
 fn rename<'a>(
     alloc: Global,
@@ -190,7 +190,7 @@ fn rename<'a>(
     }
 }
 
-// `C FROM TO`: what follows `C `.
+// `C FROM TO`, parsed after `C `.
 #[tactic(auto, unfolding(crate::specs::Changes::copy_at))]
 fn copy<'a>(
     alloc: Global,
@@ -207,7 +207,7 @@ fn copy<'a>(
     }
 }
 
-// `N CONTENT COMMIT`: what follows `N `.
+// `N CONTENT COMMIT`, parsed after `N `.
 #[tactic(auto, unfolding(crate::specs::Changes::note_at))]
 fn note<'a>(
     alloc: Global,

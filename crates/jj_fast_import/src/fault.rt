@@ -20,13 +20,13 @@ pub enum Expected {
     From,
     /// `merge :MARK` or `merge COMMIT`
     Merge,
-    /// `M MODE :MARK PATH`, with an object ID or `inline` in place of the mark
+    /// `M MODE :MARK PATH`, with an object ID or `inline` instead of the mark
     Modify,
     /// `D PATH`
     Delete,
     /// `R FROM TO` or `C FROM TO`
     TwoPaths,
-    /// `N :MARK COMMIT`, with an object ID or `inline` in place of the mark
+    /// `N :MARK COMMIT`, with an object ID or `inline` instead of the mark
     Note,
 }
 

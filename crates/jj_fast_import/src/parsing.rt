@@ -327,7 +327,7 @@ fn reset<'a>(
     Ok((Command::Reset { ref_name, from }, rest))
 }
 
-// The command of the first line `text` that is no blob, commit, tag or reset.
+// The command with this first line, which is no blob, commit, tag or reset.
 #[tactic(auto, unfolding(crate::specs::Commands::other_in))]
 fn other_in<'a>(
     alloc: Global,
@@ -358,7 +358,7 @@ fn other_in<'a>(
     Err(malformed(Expected::Command, left))
 }
 
-// The command of the first line `text`.
+// The command with this first line.
 #[tactic(auto, unfolding(crate::specs::Commands::command_in))]
 fn command_in<'a>(
     alloc: Global,
@@ -389,7 +389,7 @@ fn command_in<'a>(
 }
 
 /// Parses the command that the bytes of a stream begin with. Returns it and the bytes after it, or
-/// `None` if the stream has ended. `at_end` says whether the stream ends after the bytes. Comments
+/// `None` if the stream has ended. `at_end`: whether the stream ends after the bytes. Comments
 /// before a line are skipped. Fails with `Stop::Incomplete` if the bytes end before the command
 /// does, with `Stop::Malformed` at the first line that the grammar does not allow, and with
 /// `Memory` if memory runs out. Linear in the length of the command.
@@ -399,6 +399,8 @@ pub fn parse_command(
     at_end: bool,
     bytes: &[u8],
 ) -> Result<Option<(Command, &[u8])>, ParseError>
+    // The result, or the error, is the one that the grammar defines for these bytes, unless memory
+    // runs out.
     ensures exact { Gives (λ read. option_map (λ parts. (command_value parts.0, parts.1.now)) read)
         result (command_at at_end bytes.now) }
 {

@@ -22,7 +22,7 @@ pub(crate) enum QuotedByte {
     Invalid,
 }
 
-// The path after an opening quote, and what follows the closing one.
+// The path after an opening quote, and the bytes after the closing one.
 pub(crate) fn unquote(alloc: Global, text: &[u8]) -> Result<Option<(Vec<u8>, &[u8])>, AllocError>
     ensures { IfOk result (λ read. option_map (λ parts. (parts.0.items, parts.1.now)) read
         ≡ unquoted Escape.Outside text.now) }

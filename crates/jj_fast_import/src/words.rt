@@ -50,7 +50,7 @@ fn push_digit(number: u64, byte: u8) -> Option<u64>
     Some(longer as u64)
 }
 
-// The number that the decimal digits of `text` represent, if it fits.
+// The number that the decimal digits represent, if it fits.
 pub(crate) fn number(text: &[u8]) -> Option<u64>
     ensures { result ≡ number_of text.now }
 {

@@ -30,6 +30,7 @@ module _ (store : Objects) (id : List ℕ) where
   IsInConflict = (commit : CommitValue) × (store.commits id ≡ Some commit)
       × (1 < length commit.root_tree)
 
+  -- the error of a commit's tree: of a read, or a conflict of its trees
   abbrev pub IsTreeError : ContentError → Type 0
   IsTreeError Memory = Unit {0}
   IsTreeError (Store error) = Unit {0}
@@ -46,7 +47,7 @@ HasContent store (Some (Symlink id)) content = store.symlinks id ≡ Some conten
 HasContent store (Some (Tree id)) content = ⊥
 HasContent store (Some (GitSubmodule id)) content = ⊥
 
--- the value has no content, as the error says
+-- the value has no content, and the error names its kind
 abbrev pub IsValueError : Option TreeValue → ContentError → Type 0
 IsValueError value Memory = Unit {0}
 IsValueError value (Store error) = Unit {0}
@@ -61,10 +62,12 @@ module _ (store : Objects) (id : List ℕ) (path : Path) where
   IsValueAt value = (tree : List ℕ) × IsTreeOf store id tree
       × (value ≡ stored_at store.trees (Some (Tree tree)) path)
 
+  -- the content that the store has for the value at the path
   abbrev pub IsContentAt : List ℕ → Type 0
   IsContentAt content = (value : Option TreeValue) × IsValueAt value
       × HasContent store value content
 
+  -- the error names the kind of the value at the path, or a conflict
   abbrev pub IsContentError : ContentError → Type 0
   IsContentError Memory = Unit {0}
   IsContentError (Store error) = Unit {0}

@@ -45,6 +45,7 @@ commits_named entries prefix = map (λ entry. entry.1)
 abbrev pub git_commits_with : Names → List ℕ → List (List ℕ)
 git_commits_with git_ids prefix = commits_named git_ids.entries prefix
 
+-- the commits with this prefix of their own id or of Git's, if it is one
 abbrev pub commits_with : Names → List (List ℕ) → Option (List ℕ) → List (List ℕ)
 commits_with git_ids ids None = []
 commits_with git_ids ids (Some prefix) =

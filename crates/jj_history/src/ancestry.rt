@@ -61,7 +61,7 @@ pub fn bases<B: Backend>(
     // proper ancestor of another one, as the store has them.
     ensures bases { IfOk result (λ bases. AreMergeBases (B.objects store.now)
         (first.now ∷ []) others.now bases.items) }
-    // An error but `Memory` is one that a read of an ancestor of a given commit may return.
+    // An error but `Memory` is one that a read of an ancestor of one of the commits may return.
     ensures error { IfFails result (IsErrorBelow (B.objects store.now) (B.may_fail store.now)
         ((first.now ∷ []) ++ others.now)) }
 {

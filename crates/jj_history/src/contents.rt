@@ -73,7 +73,7 @@ pub fn file_content<B: Backend>(
     // The content is that which the store has for the value at the path.
     ensures content { IfOk result (λ content. IsContentAt (B.objects store.now) id.now
         (path_of path.entry) content.items) }
-    // An error but `Store` and `Memory` says what is at the path, or that there is a conflict.
+    // An error but `Store` and `Memory` names the kind of value at the path, or a conflict.
     ensures error { IfErr result (IsContentError (B.objects store.now) id.now
         (path_of path.entry)) }
 {

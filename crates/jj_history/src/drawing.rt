@@ -48,7 +48,7 @@ fn hex_ids(alloc: Global, ids: &[CommitId]) -> Result<Vec<String>, AllocError> {
 }
 
 // Returns a commit of the log by the digits of its id and of those of its parents, without a label
-// if it is not shown.
+// if it is hidden.
 fn entry_of(
     alloc: Global,
     names: &CommitNames,
@@ -82,11 +82,11 @@ fn entries_of(
     Ok(entries)
 }
 
-/// Draws the commits of a list that are shown as a graph, children first, in at most so many
-/// columns. A commit has its short name, its refs, and the first line of its description. `shown`
-/// says of each commit whether it is; descendants of one that is not have edges to its nearest
-/// ancestors that are. Fails with `Cycle` if the history has one, with `TooWide` if a row needs
-/// more columns, and with `Memory` if memory runs out.
+/// Draws the visible commits of a list as a graph, children first, in at most so many columns. A
+/// commit has its short name, its refs, and the first line of its description. `shown` has a flag
+/// for each commit; descendants of a hidden one have edges to its nearest visible ancestors. Fails
+/// with `Cycle` if the history has one, with `TooWide` if a row needs more columns, and with
+/// `Memory` if memory runs out.
 pub fn draw_order(
     alloc: Global,
     names: &CommitNames,

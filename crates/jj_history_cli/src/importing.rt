@@ -61,8 +61,8 @@ fn import_in_transaction<S: Alter + Drop, R: Source>(
     }
 }
 
-// Imports batches up to the end of the stream, or to an error of it. On a terminal, `errors` says
-// how many commits were imported.
+// Imports batches up to the end of the stream, or to an error of it. On a terminal, `errors`
+// reports how many commits were imported.
 fn import_batches<S: Alter + Drop, R: Source, E: Sink>(
     alloc: Global,
     store: Mirrored<SqliteLog<S>>,

@@ -30,7 +30,7 @@ module _ (store : Objects) where
   IsThere trees (Tree id) = Contains trees id
   IsThere trees (GitSubmodule id) = Unit {0}
 
-  -- the store has the tree, and what each of its entries names is there
+  -- the store has the tree, and the objects that its entries name
   abbrev pub IsWhole : List (List ℕ) → List ℕ → Type 0
   IsWhole trees id = (entries : Entries) × (store.trees id ≡ Some entries)
       × All (λ entry. IsThere trees entry.1) entries

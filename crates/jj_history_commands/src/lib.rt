@@ -1,4 +1,4 @@
-//! The commands of `jj-history`: their arguments, and what those that read print, over any backend.
+//! The commands of `jj-history`: their arguments, and the output of those that read any backend.
 #![tactic(auto)]
 
 pub mod arguments;

@@ -69,7 +69,7 @@ pub fn changes_files<B: Backend>(
     differs_from_each(alloc, store, tree, &commit.parents, files)
 }
 
-// Returns for each commit whether the log shows it: all without a file set.
+// Returns for each commit whether it is visible in the log: all are without a file set.
 fn shown_commits<B: Backend>(
     alloc: Global,
     store: &B,

@@ -116,7 +116,7 @@ module _ (counts : List ValueCount) (change : SameChange) (k : ℕ) (within : k 
         let (j, before, j_within, is, j_more) = t.is_removed r refl in
         two_removed terms change (at counts j).text (at counts k).text (apart j before j_within) (removed_at j j_within j_more) (removed_at k within more)
 
-    -- a change that several sides made, where equal changes are kept
+    -- a change that several sides made, without the rule for equal changes
     pub conflict_repeated : (change ≡ Keep) × ((at counts k).adds ≢ (at counts k).removes + 1) → (at counts k).removes < (at counts k).adds → HasNoResolution text_eq terms change
     conflict_repeated (keep, repeated) more =
         keep_unresolved text_eq text_laws terms change (at counts k).text keep

@@ -34,7 +34,7 @@ abbrev HasKind : {S : Type 0} → Result S LineFault → Option LineFault → Ty
 HasKind (Ok state) kind = kind ≡ None
 HasKind (Err own) kind = kind ≡ Some own
 
--- the invariant holds after a step without fault
+-- a step without fault preserves the invariant
 abbrev After : {S : Type 0} → Result S LineFault → (S → Type 0) → Type 0
 After (Ok state) P = P state
 After (Err kind) P = Unit {0}

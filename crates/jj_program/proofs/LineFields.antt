@@ -166,7 +166,7 @@ ascii_end : (a b : Bool) (x : ℕ) → (a ≡ true → x ≡ 9) → (b ≡ true 
 ascii_end true b x nine ten h = let is = nine refl in omega (arith, is)
 ascii_end false b x nine ten h = let is = ten h in omega (arith, is)
 
--- the field at an index, and what follows it
+-- the field at an index, and the bytes after it
 module _ (text : List ℕ) (start n : ℕ) (within : start ≤ length text) (is : n ≡ position_or_len is_end (drop start text)) where
   abbrev pub rest : List ℕ
   rest = drop start text

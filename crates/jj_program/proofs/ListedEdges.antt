@@ -1,4 +1,4 @@
--- Adjacency lists as parts of one array: what one more line adds, and that the array has all neighbors.
+-- Adjacency lists as parts of one array: the part of one more line; the array has all neighbors.
 use Rattle.std.proofs.Common.{rules, Equal, Greater, Less, nat_lt, ◌≡◌, ◌∙◌, ◌==◌, ◌-◌, ◌<◌, ◌≤◌, ℕ, Bool, true, false, cond, List, [], ◌++◌, length, length-append, get_or, take, drop, Option, Some, None, refl, sym, ap, arith}
 use Rattle.std.specs.Prelude.{All, unwrap_or}
 use Rattle.std.specs.BTreeMap.{BTreeMap, get, is_at}

@@ -28,7 +28,7 @@ module _ (m : List Text) where
       let vx = d.1 x (is_positive (all_added text_eq m x) (all_removed text_eq m x) x_more) in
       false≢true (sym apart ∙ both v a x va vx)
 
-  -- a value with a negative count, where equal changes are kept
+  -- a value with a negative count, without the rule for equal changes
   pub kept_removed : (change : SameChange) (x : Text) → change ≡ Keep → all_added text_eq m x < all_removed text_eq m x → HasNoResolution text_eq m change
   kept_removed change x keep more = keep_unresolved text_eq text_laws m change x keep (λ e. omega (arith, e)) (λ e. omega (arith, e))
 
@@ -67,7 +67,7 @@ module _ (change : SameChange) (xs ys : List Text) (i j m n : ℕ) (o p : Option
           (omega (arith, counts b, left_counted ys j b n xs i o m t))
           (omega (arith, counts y, head_counted ys j p n xs i o m d alone s))
 
-  -- a string is left of the removes, where equal changes are kept
+  -- a string of the removes is unmatched, without the rule for equal changes
   pub conflict_kept : change ≡ Keep → IsUnmatched ys j xs i → SidesAt xs i o m ys j p n → ResolvesSides change xs ys None
   conflict_kept keep alone s terms counts =
       let y = get_or ys j d in

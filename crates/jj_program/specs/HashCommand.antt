@@ -1,4 +1,4 @@
--- The command `hash`: the digest of each line's bytes, which are given in hex or are the content of
+-- The command `hash`: the digest of each line's bytes, which are in hex or are the content of
 -- strings.
 -- Cited by contracts of public items through LineFaults, Program.
 use Rattle.std.specs.Prelude.{◌≡◌, ℕ, ◌+◌, ◌*◌, List, [], ◌∷◌, ◌++◌, flat_map, Option, None, Some, ok_or, option_and_then, option_map, Result, Ok, length, ⊤}
@@ -24,14 +24,15 @@ bytes_of_hex (high ∷ low ∷ text) =
     option_and_then (λ h. option_and_then (λ l. option_map (λ bytes. (h * 16 + l) ∷ bytes)
     (bytes_of_hex text)) (digit_value hex_digits low)) (digit_value hex_digits high)
 
--- the digest of what a line with these fields describes: the bytes of a hex string, or the content
--- of a string, of a list of strings or of a merge of strings
+-- the digest of the value that a line with these fields describes: the bytes of a hex string, or
+-- the content of a string, of a list of strings or of a merge of strings
 abbrev pub hashed : HashInput → List (List ℕ) → Result (List ℕ) LineFault
 hashed Raw fields = ok_or (option_map blake2b (bytes_of_hex (concat fields))) BadHex
 hashed Text fields = Ok (blake2b (flat_map string_content fields))
 hashed List' fields = Ok (blake2b (list_content string_content fields))
 hashed Merge fields = Ok (blake2b (list_content string_content fields))
 
+-- the output of a line: its digest, or its fault
 abbrev pub hash_line : List (List ℕ) → Result (List ℕ) LineFault
 hash_line fields =
     result_and_then (form_line (table HASH_FORMS) fields) (λ line. hashed line.0 line.2)

@@ -135,6 +135,7 @@ IsDeterminedBy command lines (Err (Matchers count)) =
     (first_fault command [] 1 lines ≡ None) × (count ≡ sets_left lines) × (count ≢ 1)
 IsDeterminedBy command lines (Err fault) = ⊥
 
+-- a result is the fault of the first wrong line, if there is one
 abbrev pub FaultsAreOfFirstKinds : Type 0
 FaultsAreOfFirstKinds = (command : Command) (text : List ℕ) (result : Result (List ℕ) Fault)
     → HasResultOnText command text result → IsDeterminedBy command (lines_of text) result

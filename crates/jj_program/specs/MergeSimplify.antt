@@ -25,7 +25,7 @@ abbrev pub AreHeadsFrom : ℕ → List ℕ → List ℕ → Type 0
 AreHeadsFrom start classes heads = (class : ℕ) → class < length classes
     → IsFirstFrom classes class start (slice_index heads class)
 
--- the index of the remove at a position from 1 on
+-- the index of the remove at a position, counted from 1
 abbrev pub remove_at : ℕ → ℕ
 remove_at position = 2 * position - 1
 

@@ -1,4 +1,4 @@
--- Messages of faults: the line and the field, which they quote, what was expected, and the remedy.
+-- Messages of faults: the line and the field, which they quote, the expected form, and the remedy.
 -- Cited by contracts of public items through Program, Reports.
 use Rattle.std.specs.Prelude.{ℕ, ◌==◌, ◌%◌, ◌+◌, ◌-◌, ◌&&◌, not, nat_le, Bool, true, false, List, [], ◌∷◌, ◌++◌, if◌then◌else◌, codes, drop, get_or, is_some, length, slice_index, Option, Some}
 use Rattle.std.specs.Fmt.{decimal}
@@ -64,7 +64,7 @@ place_of command EmptyStack fields = 0
 place_of command kind fields =
     first_wrong (is_wrong (shape_named command (get_or fields 0 [])) kind) 1 (drop 1 fields)
 
--- 2. What was expected.
+-- 2. Expected forms.
 
 abbrev pub unknown_text : Command → List ℕ
 unknown_text Walk = codes "not a word of walk"

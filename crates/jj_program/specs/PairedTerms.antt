@@ -1,5 +1,5 @@
--- Pairs of an add and an equal remove that cancel, by a flag for each term of a merge that says
--- whether it is left.
+-- Pairs of an add and an equal remove that cancel, by a flag for each term of a merge: whether it
+-- remains.
 -- Machinery of private functions and fields.
 use Rattle.std.specs.Prelude.{ℕ, ◌≡◌, ◌≢◌, ◌+◌, ◌<◌, ◌%◌, Bool, true, false, List, [], ◌∷◌, if◌then◌else◌, length, slice_index_or}
 use Rattle.jj_merges.specs.Merge as merge

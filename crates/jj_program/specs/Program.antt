@@ -45,6 +45,7 @@ HasResult command input result = MatchBool (is_utf8 input) (HasResultOnText comm
 abbrev pub OutputsOf : Command → List ℕ → List ℕ → Unit {0} → Type 0
 OutputsOf command input output outcome = HasResult command input (Ok output)
 
+-- the fault is the result of the command for the input
 abbrev pub FaultsOf : Command → List ℕ → Fault → Type 0
 FaultsOf command input fault = HasResult command input (Err fault)
 

@@ -15,5 +15,6 @@ abbrev pub report_text : Result (Unit {0}) (Failure FaultReport) → List ℕ
 report_text ended =
     report_line (codes "jj-core") (ended_text (λ _. []) (λ report. string_bytes report.message) ended)
 
+-- the exit status: 0 after a success, 1 after a failure
 abbrev pub status_of : Result (Unit {0}) (Failure FaultReport) → ℕ
 status_of = ended_status (λ _. 0) (λ _. 1)

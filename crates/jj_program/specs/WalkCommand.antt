@@ -113,14 +113,15 @@ walk_request text = result_and_then
 
 -- 3. The output.
 
--- a set of files as its matcher shows it: its members, the directories that a walk may enter, the
--- visits of directories, and the names that these may list
+-- a set of files as its matcher represents it: its members, the directories that a walk may enter,
+-- the visits of directories, and the names that these may list
 pub record MatcherSpec : Type 0 where
   pub accepts : Path → Bool
   pub opens : Path → Bool
   pub visits : Path → VisitSpec
   pub names : List Name
 
+-- the matcher of a set of files that a line names
 abbrev pub leaf_spec : FileSet → MatcherSpec
 leaf_spec Everything = record {
   accepts = λ path. true;
@@ -175,6 +176,7 @@ combined_spec Intersection first second = record {
   names = first.names ++ second.names;
 }
 
+-- the matcher of a tree of sets, by the matchers of its operands
 abbrev pub spec_of : SetTree FileSet → MatcherSpec
 spec_of (one set) = leaf_spec set
 spec_of (both combination first second) = combined_spec combination (spec_of first) (spec_of second)

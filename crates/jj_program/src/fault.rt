@@ -27,7 +27,7 @@ pub enum Fault {
     Line { line: usize, kind: LineFault },
 }
 
-/// A fault with its message: the line and the field, which it quotes, and what was expected.
+/// A fault with its message: the line and the field, which it quotes, and the expected form.
 #[derive(Debug, Drop, PartialEq, Eq)]
 pub struct FaultReport {
     pub fault: Fault,

@@ -81,8 +81,8 @@ fn parse_digits(digits: &[u8]) -> Option<u64>
     Some(value)
 }
 
-// Rejects the empty string, and what `u64::from_str` accepts beyond decimal numbers: a leading `+`
-// and leading zeros.
+// Rejects the empty string, and strings that `u64::from_str` accepts with a leading `+` or leading
+// zeros.
 fn is_plain(text: &[u8]) -> bool
     ensures { IsTrue result ↔ IsPlain text.now }
 {

@@ -4,8 +4,8 @@ ghost use Rattle.jj_program.specs.FoundFiles.{FindsItsFiles};
 ghost use Rattle.jj_program.specs.LineFaults.{FaultsAreOfFirstKinds};
 ghost use Rattle.jj_program.specs.LineForms.{HasTheseLines};
 
-/// Each command has exactly one result for an input, one output or one fault: what a run writes is
-/// a function of what it reads.
+/// Each command has exactly one result for an input, one output or one fault: the output of a run
+/// is a function of its input.
 pub fn results_are_unique()
     ensures { ResultsAreUnique }
 {}

@@ -1,6 +1,6 @@
 //! Cancels adds of a merge with equal removes through a hash table of hints with open addressing,
-//! in O(n). It is right for any hints: a pair that no probed slot leads to is kept. Where many
-//! terms are left, a second pass takes hashes that are keyed by a digest of all terms.
+//! in O(n). It is right for any hints: a pair that no probed slot leads to remains. Where many
+//! terms remain, a second pass takes hashes that are keyed by a digest of all terms.
 ghost use Rattle.std.specs.Prelude.{◌≡◌, ◌+◌, ◌<◌, ◌≤◌, ◌^◌, ◌%◌, IfOk, IfSome, IsTrue, length};
 ghost use Rattle.jj_merges.specs.Merge as merge;
 ghost use Rattle.jj_program.specs.MergeViews.{HaveCountsOf};

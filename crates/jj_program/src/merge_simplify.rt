@@ -12,8 +12,8 @@ ghost use Rattle.jj_program.specs.TermClasses.{AreClassesOf};
 use crate::term_classes::classes_of;
 use std::alloc::{AllocError, Global};
 
-// Returns the terms of the simplified merge. Adds have positions from 0 on, and a remove has that
-// of the add after it.
+// Returns the terms of the simplified merge. Positions of adds count from 0, and a remove has
+// that of the add after it.
 pub(crate) fn simplified_terms<'t>(
     alloc: Global,
     terms: &[&'t str],

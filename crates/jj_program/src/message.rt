@@ -1,4 +1,4 @@
-//! Messages of faults: the line and the field, which they quote, what was expected, and for common
+//! Messages of faults: the line and the field, which they quote, the expected form, and for common
 //! mistakes the remedy.
 ghost use Rattle.std.specs.Prelude.{◌≡◌, ◌-◌, ◌+◌, ◌^◌, ◌≤◌, ◌<◌, [], drop, get_or, length, IfOk, string_bytes};
 ghost use Rattle.jj_program.specs.Lines.{fields_of, lines_of, texts_of};

@@ -8,7 +8,7 @@ use std::alloc::Global;
 use std::process::Abort;
 
 /// Returns the result and the output of a run whose reads and writes process at most `most` bytes
-/// and fail after the given numbers of calls.
+/// and fail after so many calls.
 pub fn outcome(
     alloc: Global,
     command: Command,

@@ -57,7 +57,7 @@ mod tests {
         for (reads, writes, kind, said) in [
             (0, 1, ErrorKind::Other, "jj-core: cannot read input\n"),
             (1000, 0, ErrorKind::Other, "jj-core: cannot write output\n"),
-            // Nothing is said of an output that its reader has closed.
+            // An output that its reader has closed is not reported.
             (1000, 0, ErrorKind::BrokenPipe, ""),
         ] {
             let mut reader = Watched::new(Cut {

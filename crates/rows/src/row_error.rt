@@ -28,7 +28,7 @@ impl<T: Drop> From<AllocFailed<T>> for RowError {
     }
 }
 
-/// Fails with `Precondition` unless a called function's precondition holds.
+/// Fails with `Precondition` unless a called function's precondition is true.
 pub fn needs(holds: bool, precondition: &'static str) -> Result<(), RowError>
     ensures { IfOk result (λ _done. IsTrue holds) }
 {

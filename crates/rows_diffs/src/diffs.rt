@@ -10,7 +10,7 @@ use rows::values::Values;
 use std::alloc::{AllocError, Global};
 use std::ops::Range;
 
-/// Returns the fields from `start` on.
+/// Returns the fields from index `start`.
 pub fn texts<'a>(
     alloc: Global,
     fields: &'a Fields,

@@ -102,7 +102,7 @@ fn glob_special(fields: &Fields, values: &mut Values) -> Result<(), RowError> {
     Ok(())
 }
 
-// Returns the first field, repeated as often as the second one says, and then the third.
+// Returns the first field, repeated by the number in the second one, and then the third.
 fn repeat(alloc: Global, fields: &Fields) -> Result<String, RowError> {
     let times = fields.index(1);
     let unit = fields.string(0);

@@ -235,7 +235,7 @@ fn built(alloc: Global, terms: Vec<String>) -> Result<Merge<String>, RowError> {
     Ok(builder.build())
 }
 
-// `merge-build TERMS`: what a builder makes of the terms, as `Debug` writes it.
+// `merge-build TERMS`: the merge that a builder makes of the terms, as `Debug` writes it.
 fn build(alloc: Global, request: &Request, values: &mut Values) -> Result<(), RowError> {
     let whole = built(alloc, request.group(0).strings(0)?)?;
     values.debug(&whole);
