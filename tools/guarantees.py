@@ -13,7 +13,7 @@ class Claim:
     def __init__(self, number, crate, line):
         self.text, cited, *callers = (cell.strip() for cell in LINK.sub(r"\1", line).strip("|").split("|"))
         self.number, self.crate = number, crate
-        self.callers = re.findall(r"`(\w+)`", "".join(callers))
+        self.callers = re.findall(r"`(?:\w+::)?(\w+)`", "".join(callers))
         parts = (words.partition(": ") for words in re.findall(r"`([^`]+)`", cited))
         self.cited = [(name, clauses.split(", ") if clauses else []) for name, _, clauses in parts]
 
