@@ -4,18 +4,23 @@ import re
 from crate_list import ROOT
 
 PAGE = ROOT / "docs/GUARANTEES.md"
-LINK = re.compile(r"\[(`[^`]+`)\]\([^)]*\)")
+LINK = re.compile(r"\[(`[^`]+`)\]\(([^)]*)\)")
+
+
+def links(cell):
+    """The names that a cell links, each with its clauses and the path of its file."""
+    for words, target in LINK.findall(cell):
+        name, _, clauses = words.strip("`").partition(": ")
+        yield name, clauses.split(", ") if clauses else [], (PAGE.parent / target).resolve()
 
 
 class Claim:
-    """A row: the claim, what it cites as names with their clauses, and the names of its proved callers."""
+    """A row: the claim, and as links what it cites and its proved callers."""
 
     def __init__(self, number, crate, line):
-        self.text, cited, *callers = (cell.strip() for cell in LINK.sub(r"\1", line).strip("|").split("|"))
-        self.number, self.crate = number, crate
-        self.callers = re.findall(r"`(?:\w+::)?(\w+)`", "".join(callers))
-        parts = (words.partition(": ") for words in re.findall(r"`([^`]+)`", cited))
-        self.cited = [(name, clauses.split(", ") if clauses else []) for name, _, clauses in parts]
+        text, cited, *callers = line.strip("|").split("|")
+        self.number, self.crate, self.text = number, crate, LINK.sub(r"\1", text).strip()
+        self.cited, self.callers = list(links(cited)), list(links("".join(callers)))
 
 
 def section_lines():

@@ -254,6 +254,13 @@ def sources(crate):
 
 
 @lru_cache(None)
+def source_at(path):
+    """The source at a path, or None."""
+    crate = path.relative_to(ROOT / "crates").parts[0]
+    return next((it for it in sources(crate) if it.path == path), None)
+
+
+@lru_cache(None)
 def top_items(crate, kind=""):
     return [it for source in sources(crate) for it in source.top if kind in ("", it.kind)]
 

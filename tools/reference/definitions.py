@@ -237,7 +237,8 @@ class Declared(NamedTuple):
     names: list
 
     def lookup(self, name):
-        return first(rust_type(self.crate, it) for it in (name, *self.names))
+        crates = STD if self.crate == "std" else [self.crate]
+        return first(declared_type(it, crates) for it in (*self.names, name))
 
 
 def first(found):
@@ -251,16 +252,20 @@ def declared(name, crates, kind=""):
     return first(it for it in found if it and kind in ("", it.kind))
 
 
+def below(crate):
+    """A crate and those that it uses."""
+    return [crate, *CRATES.get(crate, []), *STD]
+
+
 @lru_cache(None)
 def declared_items(crate):
     """The types, traits and constants of a crate by name."""
     found = [it for it in top_items(crate) if it.kind in (*TYPES, "const", "static")]
-    return {it.name: it for it in [*reversed(found), *(it for it in found if it.public)]}
+    return {it.name: it for it in sorted(found, key=lambda it: it.public)}
 
 
-@lru_cache(None)
-def rust_type(crate, name):
-    item = declared(name, [crate, *(STD if crate == "std" or crate in CRATES else [])])
+def declared_type(name, crates):
+    item = declared(name, crates)
     return item and type_definition(item)
 
 
@@ -284,24 +289,10 @@ def type_definition(item):
     return made
 
 
-def trait_named(crate, name):
-    return declared(name, [crate, *CRATES.get(crate, []), *STD], "trait")
-
-
-@lru_cache(None)
-def of_dyn_traits(crate):
-    """The trait of each ghost member, by whose bare name a clause calls it where a value is a
-    `dyn`."""
-    places = [crate, *(it for it in CRATES.get(crate, []) if it in CRATES)]
-    traits = [it for place in places for it in declared_items(place).values()
-              if it.kind == "trait" and re.search(rf"dyn {it.name}\b", it.source.text)]
-    return {name: it.name for it in reversed(traits) for name in it.ghosts}
-
-
 @lru_cache(None)
 def ghost_member(crate, trait, member, depth=0):
     """A ghost member of a trait or of the traits above it."""
-    item = trait_named(crate, trait)
+    item = declared(trait, below(crate), "trait")
     if not item or depth > 5:
         return None
     if member in item.ghosts:
@@ -341,6 +332,7 @@ class Scope(Names):
             self.bounds[name] += re.findall(r"(?:^|\+)\s*(?:\w+::)*([A-Z]\w*)", traits)
         self.traits = [it.trait for it in around if it.trait][:1]
         self.bounds["Self"] += self.traits
+        self.dyns = dict.fromkeys(re.findall(r"dyn (\w+)", source.text))
 
     def find(self, token):
         crate, (head, *rest) = self.crate, token.split(".")
@@ -351,11 +343,10 @@ class Scope(Names):
             return super().find(token)
         if not rest and (found := first(ghost_member(crate, it, head) for it in self.traits)):
             return found
-        if not rest and head[:1].islower() and head in of_dyn_traits(crate):
-            return ghost_member(crate, of_dyn_traits(crate)[head], head)
-        if head[:1].isupper() and head not in self.bounds:
-            return first(rust_type(it, head) for it in [crate, *CRATES.get(crate, [])])
-        return None
+        if head[:1].isupper():
+            crates = below(crate) if crate in CRATES else [crate]
+            return None if head in self.bounds else declared_type(head, crates)
+        return None if rest else first(ghost_member(crate, it, head) for it in self.dyns)
 
     def member(self, crate, head, rest):
         """A ghost member of a type that is given by its traits, or a word of a closure."""
@@ -364,5 +355,5 @@ class Scope(Names):
         traits = [*self.bounds.get(head, []), *self.bounds.get("Self", [])]
         traits = ["Iterator"] if "IntoIter" in rest else traits
         found = first(ghost_member(crate, it, rest[-1]) for it in traits)
-        trait = None if found else trait_named(crate, rest[-1])
+        trait = None if found else declared(rest[-1], below(crate), "trait")
         return type_definition(trait) if trait else found

@@ -2,7 +2,7 @@
 import html
 import re
 
-SPAN = re.compile(r"\[`?(?P<said>[^\]`]*(?:`[^`]*`)?[^\]`]*)`?\]\((?P<target>[^)]*)\)|"
+SPAN = re.compile(r"\[(?P<said>(?:`[^`]*`|[^\]`])*)\]\((?P<target>[^)]*)\)|"
                   r"\[?`(?P<code>[^`]+)`\]?|\*\*(?P<b>.+?)\*\*|"
                   r"(?<!\w)\*(?P<em>[^*\s][^*]*)\*(?!\w)")
 # The blocks, by how they begin; each goes on as far as its second pattern matches lines.
@@ -22,13 +22,14 @@ def first_sentence(text):
     return re.split(r"(?<=[.])\s", text.replace("\n", " ").strip(), maxsplit=1)[0]
 
 
-def inline(text, link=lambda words: "", href=lambda target: target):
-    """A line in HTML. `link` returns where a name in code leads, or nothing; `href` where a link of
-    the text leads."""
+def inline(text, link=lambda words: "", href=lambda target, words: target):
+    """A line in HTML. `link` returns where a name in code leads, or nothing; `href` where a link
+    with some words leads."""
     def span(found):
         kind, words = found.lastgroup, html.unescape(found[found.lastgroup])
         if kind == "target":
-            return a(href(words), inline(html.unescape(found["said"])))
+            said = html.unescape(found["said"])
+            return a(href(words, said.strip("`")), inline(said))
         if kind == "code":
             said, target = f"<code>{found['code']}</code>", link(words)
             return a(target, said) if target else said
@@ -37,19 +38,19 @@ def inline(text, link=lambda words: "", href=lambda target: target):
     return SPAN.sub(span, html.escape(text.replace("\n", " ")))
 
 
-def table(text, line_of, row_id):
+def table(text, line_of, number):
+    """A table whose first line is the one of this number; a row has the number of its line."""
     head, _, *rows = ([cell.strip() for cell in re.split(r"(?<!\\)\|", line.strip().strip("|"))]
                       for line in text.split("\n"))
     titles = "".join(f"<th>{line_of(cell)}" for cell in head)
     cells = (row + [""] * (len(head) - len(row)) for row in rows)
-    body = "".join(f"<tr{row_id(index)}>" + "".join(f"<td>{line_of(cell)}" for cell in row)
-                   for index, row in enumerate(cells, 2))
+    body = "".join(f'<tr id="row-{at}">' + "".join(f"<td>{line_of(cell)}" for cell in row)
+                   for at, row in enumerate(cells, number + 2))
     return f"<table><thead><tr>{titles}</thead><tbody>{body}</tbody></table>"
 
 
-def markdown(text, link=lambda words: "", href=lambda target: target, row_id=lambda line: ""):
-    """A text in HTML. `row_id` returns the attribute of the row of a table that is at a line of the
-    text."""
+def markdown(text, link=lambda words: "", href=lambda target, words: target):
+    """A text in HTML, with links as of `inline`."""
     def line_of(said):
         return inline(said, link, href)
 
@@ -61,8 +62,7 @@ def markdown(text, link=lambda words: "", href=lambda target: target, row_id=lam
             level, name = len(found["marks"]), re.sub(r"\W+", "-", found["heading"].lower())
             return f'<h{level} id="{name.strip("-")}">{line_of(found["heading"])}</h{level}>'
         if found["table"]:
-            line = text.count("\n", 0, found.start()) + 1
-            return table(found["table"], line_of, lambda index: row_id(line + index))
+            return table(found["table"], line_of, text.count("\n", 0, found.start()) + 1)
         if found["list"]:
             rows = re.split(r"^[-*] ", found["list"], flags=re.M)[1:]
             return f"<ul>{''.join(f'<li>{line_of(row)}' for row in rows)}</ul>"

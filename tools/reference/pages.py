@@ -6,14 +6,14 @@ from collections import defaultdict
 from pathlib import Path
 from string import Template
 
-import guarantees
 from crate_list import ROOT, layers
 from source_reader import (CRATES, TYPES, Source, exported_items, exports, module_source,
                            public_modules, resolve)
 
-from .definitions import LEANS, VALUE, Scope, Text, binders, declared, type_definition
+from .definitions import (LEANS, VALUE, Scope, Text, below, binders, declared_type,
+                          type_definition)
 from .markdown import a, first_sentence, inline, markdown
-from .project import GUIDE, SHOWN, TESTS, Project, crates_of, page_of, title_of
+from .project import GUIDE, SHOWN, Project, crates_of, items_at, page_of, title_of
 
 HERE = Path(__file__).parent
 FRAME, LEGEND = Template((HERE / "page.html").read_text()), (HERE / "legend.html").read_text()
@@ -75,9 +75,9 @@ def gloss(cited, known):
 def signature_types(item):
     """The types in a signature: where fields of values are looked up."""
     heads = item.head + (item.parent.head if item.parent else "")
-    places = [item.source.crate, *CRATES[item.source.crate], "std_alloc", "core", "std"]
     names = dict.fromkeys(re.findall(r"\b[A-Z]\w*", heads))
-    return [type_definition(it) for it in (declared(name, places) for name in names) if it]
+    found = (declared_type(it, below(item.source.crate)) for it in names)
+    return list(filter(None, found))
 
 
 class Site:
@@ -88,10 +88,15 @@ class Site:
         self.search, self.clause_texts = [], []
         for module in self.project.pages:
             self.add_page(page_of(module), module.name(), self.module_page(module))
+            self.search.append([module.name(), "module", module.crate, page_of(module),
+                                plain(module.doc)])
         for path in DOCUMENTS:
             self.add_page(document_page(path), path.stem, self.document(path))
             self.search.append([path.stem, "document", "docs", document_page(path),
                                 plain(title_of(path))])
+        for claim in self.project.rows:
+            link = f"doc.GUARANTEES.html#row-{claim.number}"
+            self.search.append([plain(claim.text), "claim", claim.crate, link, ""])
         self.add_page("index.html", "jj-core reference", self.index())
         self.add_definitions()
         self.add_data("search.js", "define_names", self.search)
@@ -109,18 +114,15 @@ class Site:
             (out / name).parent.mkdir(parents=True, exist_ok=True)
             (out / name).write_text(text)
 
-    def link_in(self, crates, others=()):
-        """The function from a name, or a name and clauses, to where it is documented: looked up in
-        these crates, and if they lack it by its name in the others."""
+    def link_in(self, crates):
+        """The function from a name to where it is documented, looked up in these crates."""
         def link(words):
-            name, _, clauses = words.partition(": ")
-            if name in SHOWN:
-                return page_of(module_source(name, ""))
-            found = [it for crate in crates for it in self.project.find(crate, name) if it.anchor]
-            found = found or [it for it in self.project.by_name[name] if it.source.crate in others]
-            cited = (link_to(it, clause) for it in found for clause in it.clauses
-                     if clauses and clause.name == clauses.split(", ")[0])
-            return next(cited, link_to(found[0]) if found else "")
+            if words in SHOWN:
+                return page_of(module_source(words, ""))
+            if re.fullmatch(r"crates/\S+\.rt", words):
+                return self.link_at(ROOT / words, words)
+            found = (it for crate in crates for it in self.project.find(crate, words) if it.anchor)
+            return next(map(link_to, found), "")
         return link
 
     def module_page(self, module):
@@ -197,10 +199,9 @@ class Site:
             said, cited = Text(model.text.partition(VALUE)[2].strip(), model.scope).html([model])
             self.cite([model, *cited])
             return f"<p class=meta>{VALUE}</p><pre>{said}</pre>" if said else ""
-        rows, there = [], {it.name for it in item.clauses}
-        for claim in dict.fromkeys(self.project.claims[item]):
-            names = dict.fromkeys(it for _, names in claim.cited for it in names if it in there)
-            link = row_link(claim, ", ".join(names) or "claim")
+        rows, there = [], [it.name for it in item.clauses]
+        for claim, cited in self.project.claims[item].items():
+            link = row_link(claim, ", ".join(it for it in cited if it in there) or "claim")
             rows.append(f"{inline(claim.text)} <span class=kind>{link}</span>")
         return listed(rows, kind=" class=claims") + (self.clauses(item) if item.clauses else "")
 
@@ -229,19 +230,15 @@ class Site:
         """The proved callers of an item, the claims that it shows, the pages of the guide that cite
         it, and the mutations that its proof rejects."""
         project = self.project
-        named = {name for claim in project.claims[item] for name in claim.callers}
-        of_rows = (it for name in sorted(named) for it in project.by_name[name]
-                   if it.source.crate in TESTS)
-        callers = list(dict.fromkeys([*project.callers[item], *of_rows]))
-        shows = [it for it in project.rows
-                 if item.name in it.callers and item.source.crate == f"{it.crate}_tests"]
+        callers = project.callers[item]
         mutations = [("", *it) for it in project.mutations[item]]
         mutations += [(f" of {it.path()}", *found) for it in callers for found in
                       project.mutations[it]]
         more = len(callers) - MOST_CALLERS
         groups = {"proved caller": [f"Proved caller {row(it, f'{it.source.crate}::{it.path()}')}"
                                     for it in callers],
-                  "claim": [f"Shows the claim: {row_link(it, inline(it.text))}" for it in shows],
+                  "claim": [f"Shows the claim: {row_link(it, inline(it.text))}"
+                            for it in project.shows[item]],
                   "guide page": [f"Guide: {a(document_page(it), inline(title_of(it)))}"
                                  for it in dict.fromkeys(project.guide[item])],
                   "mutation": [f"Mutation{of} that is rejected: <code>{name}</code>, "
@@ -254,26 +251,26 @@ class Site:
         return f"<details><summary>{said}</summary>{rows}</details>" if said else ""
 
     def document(self, path):
-        """A document, with links from the names that it cites. In GUARANTEES these are looked up in
-        the crate of their section."""
-        def href(target):
+        """A document, with links from the names that it cites."""
+        def href(target, words):
             file, mark, anchor = target.partition("#")
             there = (path.parent / file).resolve()
             if there in DOCUMENTS:
                 return document_page(there) + mark + anchor
+            if there.suffix == ".rt":
+                return self.link_at(there, *words.split(": ")) or "index.html"
             return "index.html" if file and there.exists() else target
 
-        text, number, out = path.read_text(), 0, []
-        if path != guarantees.PAGE:
-            tests = [f"{it}_tests" for it in crates_of(path)]
-            crates = [*crates_of(path), *(it for it in tests if it in CRATES)]
-            return markdown(text, self.link_in(crates), href)
-        for part in re.split(r"^(?=## `)", guarantees.LINK.sub(r"\1", text), flags=re.M):
-            crate = re.match(r"## `(\w+)`|", part)[1]
-            out.append(markdown(part, self.link_in([crate] if crate else [], TESTS), href,
-                                lambda line, start=number: f' id="row-{start + line}"'))
-            number += part.count("\n")
-        return "".join(out)
+        tests = [f"{it}_tests" for it in crates_of(path)]
+        link = self.link_in([*crates_of(path), *(it for it in tests if it in CRATES)])
+        return markdown(path.read_text(), link, href)
+
+    def link_at(self, path, name, clauses=""):
+        """Where an item of a file is documented, or its first clause of these; or nothing."""
+        found = [it for it in items_at(path, name) if it.anchor]
+        cited = (link_to(it, clause) for it in found for clause in it.clauses
+                 if clause.name and clause.name == clauses.split(", ")[0])
+        return next(cited, link_to(found[0]) if found else "")
 
     def index(self):
         shown = [[it for it in names if it in SHOWN] for names in layers()]

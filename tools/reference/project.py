@@ -5,7 +5,8 @@ from collections import defaultdict
 
 from crate_list import ROOT, is_test_support
 from guarantees import LINK, claims, section_lines
-from source_reader import CRATES, TYPES, exported_items, home_of, public_modules, sources, top_items
+from source_reader import (CRATES, TYPES, exported_items, home_of, public_modules, source_at,
+                           sources, top_items)
 
 SHOWN = [it for it in CRATES if not it.startswith("rows") and it != "conformance"]
 TESTS = [it for it in SHOWN if is_test_support(it)]
@@ -36,13 +37,28 @@ def page_of(module):
     return f"{module.name().replace('::', '.')}.html"
 
 
+def meant(found, words):
+    """The items that are meant by `Type::function`, `Trait::function` or `function`."""
+    *owner, name = words.split("::")
+    return [it for it in found if it.name == name and it.kind != "ghost" and
+            (not owner or owner[-1] in (it.owner, it.source.crate, *(it.anchor or "").split(".")))]
+
+
+def items_at(path, words):
+    """The items that a link to a file means: the functions that its words name, or all."""
+    source = source_at(path)
+    found = list(source.every_item()) if source else []
+    return found if words.endswith(".rt") else meant(found, words)
+
+
 class Project:
     """Every shown item, with its page and anchor, and the claims, callers, mutations and pages of
     the guide of each."""
 
     def __init__(self):
-        self.by_name, self.on_page, self.notes, self.claims = (defaultdict(list) for _ in range(4))
-        self.callers, self.mutations, self.guide = (defaultdict(list) for _ in range(3))
+        self.on_page, self.notes, self.guide, self.mutations = (defaultdict(list) for _ in range(4))
+        self.by_name, self.shows = defaultdict(list), defaultdict(list)
+        self.claims, self.callers = defaultdict(dict), defaultdict(dict)
         self.pages, self.rows = [], claims()
         for crate in SHOWN:
             self.place(crate)
@@ -96,76 +112,71 @@ class Project:
         self.by_name[item.name].append(item)
 
     def find(self, crate, words):
-        """The items of a crate that a document means by `Type::function`, `function` or `file.rt`,
-        those with a page first."""
-        *owner, name = words.split("::")
-        if name.endswith(".rt"):
-            return [it for source in sources(crate) if str(source.path).endswith(f"/{name}")
-                    for it in source.every_item()]
-        found = [it for source in sources(crate) for it in source.by_name.get(name, [])
-                 if it.kind != "ghost" and
-                 (not owner or owner[-1] in (it.owner, *(it.anchor or "").split(".")))]
-        traits = {it.parent.implemented["trait"] for it in found if not it.anchor and it.parent}
+        """The items of a crate that a document means by a name, those with a page first; for a
+        method without a page, also that of its trait."""
+        name = words.rpartition("::")[2]
+        found = meant((it for source in sources(crate) for it in source.by_name.get(name, [])),
+                      words)
+        traits = {it.parent.trait for it in found if not it.anchor and it.parent} - {""}
         found += [it for it in self.by_name[name] if it.owner in traits]
         return sorted(found, key=lambda it: (not it.anchor, bool(it.parent)))
 
     def read_guarantees(self):
+        """Enters each claim, with the clauses, at the functions that it cites, and the callers."""
         for _, crate, line in section_lines():
             if not line.startswith("|"):
                 self.notes[crate].append(LINK.sub(r"\1", line))
         for claim in self.rows:
-            for name in (it for it, _ in claim.cited if not it.endswith(".rt")):
-                for item in self.find(claim.crate, name):
-                    self.claims[item].append(claim)
+            callers = [item for name, _, path in claim.callers for item in items_at(path, name)]
+            for name, clauses, path in claim.cited:
+                for item in items_at(path, name) if name[-3:] != ".rt" else []:
+                    self.claims[item].setdefault(claim, []).extend(clauses)
+                    self.callers[item] |= {it: True for it in callers if it.anchor}
+            for item in callers:
+                self.shows[item].append(claim)
 
     def read_mutations(self):
-        """Enters each mutation at the public functions that it changes, or else at the nearest that
-        call what it changes."""
-        for crate in (it for it in SHOWN if it not in TESTS):
-            functions = every_function([crate])
-            names = [it.name for it in functions]
-            called = {it: {name for *_, name in CALL.findall(it.body)} for it in functions}
-            for file in sorted((home_of(crate) / "must-fail").glob("*.edit")):
-                said = dict(re.findall(r"^(file|old|new): ?(.*)$", file.read_text(), re.M))
-                near = {it for it in functions if str(it.source.path).endswith(said["file"])
-                        and said["old"].strip() in it.text}
-                seen = set(near)
-                while near and not any(it.anchor for it in near):
-                    once = {it.name for it in near if names.count(it.name) == 1}
-                    near = {it for it in functions if once & called[it]} - seen
-                    seen |= near
-                for item in near:
-                    self.mutations[item].append((file.stem, said.get("new", "").strip()))
+        """Enters each mutation at the functions that it changes, or if these have no page at those
+        of their file."""
+        for file in sorted(it for crate in SHOWN for it in home_of(crate).glob("must-fail/*.edit")):
+            said = dict(re.findall(r"^(file|old|new): ?(.*)$", file.read_text(), re.M))
+            there = source_at(file.parent.parent / said["file"]).every_item()
+            shown = [it for it in there if it.anchor and it.kind == "fn"]
+            changed = [it for it in shown if said["old"].strip() in it.text]
+            for item in changed or shown:
+                self.mutations[item].append((file.stem, said.get("new", "").strip()))
 
     def read_callers(self):
         """Enters each function with a contract of a crate of callers at the functions of the
         libraries below that it calls."""
-        owners, traits = defaultdict(set), defaultdict(set)
+        owners, types = defaultdict(set), defaultdict(set)
         for impl in (it for crate in CRATES for it in top_items(crate, "impl") if it.trait):
-            traits[impl.trait].add(impl.type)
+            types[impl.trait].add(impl.type)
         for item in every_function(CRATES):
             owners[item.name].add(item.owner)
-        for caller in (it for it in every_function(CALLERS) if it.anchor):
-            if any(it.kind.startswith("ensures") for it in caller.clauses):
-                crates = [it for it in CRATES[caller.source.crate] if it not in TESTS]
-                for dot, owner, name in dict.fromkeys(CALL.findall(caller.body)):
+        for caller in every_function(CALLERS):
+            if not (caller.anchor and any("ensures" in it.kind for it in caller.clauses)):
+                continue
+            below = [it for it in CRATES[caller.source.crate] if it not in TESTS]
+            for dot, owner, name in CALL.findall(caller.body):
+                if dot:
+                    called = called_types(caller, owners[name], types)
+                else:
                     owner = caller.owner if owner == "Self" else owner
-                    types = (called_types(caller, owners[name], traits) if dot
-                             else {owner if owner[:1].isupper() else ""})
-                    for item in (it for it in self.by_name[name] if it.source.crate in crates):
-                        mine = {item.owner} | traits[item.parent and item.owner]
-                        if item.kind == "fn" and mine & types and caller not in self.callers[item]:
-                            self.callers[item].append(caller)
+                    called = {owner if owner[:1].isupper() else ""}
+                for item in (it for it in self.by_name[name] if it.source.crate in below):
+                    if item.kind == "fn" and ({item.owner} | types.get(item.owner, set())) & called:
+                        self.callers[item][caller] = True
 
 
-def called_types(caller, owners, traits):
+def called_types(caller, owners, types):
     """The types that have a method of some name and that the caller names, or else its file if no
-    other type has one; none if several are left. `traits` has the types of each trait."""
+    other type has one; none if several are left. `types` has those of each trait."""
     def named(text):
         words = set(re.findall(r"\w+", text))
-        return {it for it in owners if it in words or words & traits.get(it, set())}
+        return {it for it in owners if it in words or words & types.get(it, set())}
 
     head = named(caller.head + (caller.parent.head if caller.parent else ""))
     near = (head | named(caller.body), head)
-    near += (owners & named(caller.source.text),) if len(owners - traits.keys()) == 1 else ()
-    return next((it for it in near if it and len(it - traits.keys()) <= 1), set())
+    near += (owners & named(caller.source.text),) if len(owners - types.keys()) == 1 else ()
+    return next((it for it in near if it and len(it - types.keys()) <= 1), set())
