@@ -260,6 +260,16 @@ def source_at(path):
     return next((it for it in sources(crate) if it.path == path), None)
 
 
+def items_at(path, words):
+    """The items of a file that are meant by `function`, `Type::function`, `crate::function`, or the
+    name of the file."""
+    (*owner, name), source = words.split("::"), source_at(path)
+    found = source.by_name.get(name, []) if source else []
+    if source and path.match(words):
+        return list(source.every_item())
+    return [it for it in found if not owner or owner[-1] in (it.owner, source.crate)]
+
+
 @lru_cache(None)
 def top_items(crate, kind=""):
     return [it for source in sources(crate) for it in source.top if kind in ("", it.kind)]

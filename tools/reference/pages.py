@@ -7,13 +7,12 @@ from pathlib import Path
 from string import Template
 
 from crate_list import ROOT, layers
-from source_reader import (CRATES, TYPES, Source, exported_items, exports, module_source,
-                           public_modules, resolve)
+from source_reader import (CRATES, TYPES, Source, exported_items, exports, items_at,
+                           module_source, public_modules, resolve)
 
-from .definitions import (LEANS, VALUE, Scope, Text, below, binders, declared_type,
-                          type_definition)
+from .definitions import VALUE, Scope, Text, below, binders, declared_type, type_definition
 from .markdown import a, first_sentence, inline, markdown
-from .project import GUIDE, SHOWN, Project, crates_of, items_at, page_of, title_of
+from .project import GUIDE, SHOWN, Project, crates_of, page_of, title_of
 
 HERE = Path(__file__).parent
 FRAME, LEGEND = Template((HERE / "page.html").read_text()), (HERE / "legend.html").read_text()
@@ -28,7 +27,11 @@ def document_page(path):
 
 
 def link_to(item, clause=None):
-    return f"{item.page}#{clause_anchor(item, clause) if clause else item.anchor}"
+    """Where an item is documented, or a clause of it; one hyphen more for each one of its name."""
+    if not clause:
+        return f"{item.page}#{item.anchor}"
+    names = [it.name or it.kind for it in item.clauses[:item.clauses.index(clause) + 1]]
+    return f"{item.page}#{item.anchor}.{names[-1]}" + "-" * names[:-1].count(names[-1])
 
 
 def row(item, name=""):
@@ -37,10 +40,6 @@ def row(item, name=""):
 
 def summary(text):
     return inline(first_sentence(text))
-
-
-def plain(text):
-    return re.sub(r"[`\[\]]", "", first_sentence(text))
 
 
 def row_link(claim, said):
@@ -53,20 +52,9 @@ def listed(rows, heading="", kind=""):
     return f"{title}<ul{kind}>{found}</ul>" if found else ""
 
 
-def clause_anchor(item, clause):
-    """The anchor of a clause; a requires has another one than the ensures of its name."""
-    same, at = [it for it in item.clauses if it.name == clause.name], item.clauses.index(clause)
-    end = f"-{at}" if len(same) > 1 and at else ""
-    if clause.kind.startswith("requires") and any(it.kind.startswith("ensures") for it in same):
-        end = "-requires"
-    return f"{item.anchor}.{clause.name or clause.kind}{end}"
-
-
 def gloss(cited, known):
-    """The comments of the project's words in a clause, each once in an item; those that only go on
-    from another comment are left out."""
-    new = [it for it in dict.fromkeys(cited) if it.is_ours and it.doc and it not in known
-           and "…" not in it.doc and not LEANS.match(it.doc)]
+    """The comments of the project's words in a clause, each once in an item."""
+    new = [it for it in dict.fromkeys(cited) if it.is_ours and it.doc and it not in known]
     known.update(new)
     rows = (f"<code>{html.escape(it.name)}</code> {summary(it.doc)}" for it in new)
     return listed(rows, kind=" class=gloss")
@@ -76,8 +64,7 @@ def signature_types(item):
     """The types in a signature: where fields of values are looked up."""
     heads = item.head + (item.parent.head if item.parent else "")
     names = dict.fromkeys(re.findall(r"\b[A-Z]\w*", heads))
-    found = (declared_type(it, below(item.source.crate)) for it in names)
-    return list(filter(None, found))
+    return list(filter(None, (declared_type(it, below(item.source.crate)) for it in names)))
 
 
 class Site:
@@ -88,15 +75,13 @@ class Site:
         self.search, self.clause_texts = [], []
         for module in self.project.pages:
             self.add_page(page_of(module), module.name(), self.module_page(module))
-            self.search.append([module.name(), "module", module.crate, page_of(module),
-                                plain(module.doc)])
+            self.add_hit(module.name(), "module", module.crate, page_of(module), module.doc)
         for path in DOCUMENTS:
             self.add_page(document_page(path), path.stem, self.document(path))
-            self.search.append([path.stem, "document", "docs", document_page(path),
-                                plain(title_of(path))])
+            self.add_hit(path.stem, "document", "docs", document_page(path), title_of(path))
         for claim in self.project.rows:
-            link = f"doc.GUARANTEES.html#row-{claim.number}"
-            self.search.append([plain(claim.text), "claim", claim.crate, link, ""])
+            page = f"doc.GUARANTEES.html#row-{claim.number}"
+            self.add_hit(claim.text, "claim", claim.crate, page)
         self.add_page("index.html", "jj-core reference", self.index())
         self.add_definitions()
         self.add_data("search.js", "define_names", self.search)
@@ -109,6 +94,11 @@ class Site:
         words = (json.dumps(it, ensure_ascii=False, separators=(",", ":")) for it in values)
         self.files[name] = f"{function}({','.join(words)})"
 
+    def add_hit(self, name, kind, place, page, doc=""):
+        """Adds what a search may find."""
+        self.search.append([re.sub(r"[`\[\]]", "", it)
+                            for it in (name, kind, place, page, first_sentence(doc))])
+
     def write(self, out):
         for name, text in self.files.items():
             (out / name).parent.mkdir(parents=True, exist_ok=True)
@@ -120,10 +110,17 @@ class Site:
             if words in SHOWN:
                 return page_of(module_source(words, ""))
             if re.fullmatch(r"crates/\S+\.rt", words):
-                return self.link_at(ROOT / words, words)
+                return self.link_at(ROOT / words, words.rpartition("/")[2])
             found = (it for crate in crates for it in self.project.find(crate, words) if it.anchor)
             return next(map(link_to, found), "")
         return link
+
+    def link_at(self, path, name, clauses=""):
+        """Where an item of a file is documented, or its first clause of these; or nothing."""
+        found = [it for it in items_at(path, name) if it.anchor]
+        cited = (link_to(it, clause) for it in found for clause in it.clauses
+                 if clause.kind != "requires" and clause.name in clauses.split(", ")[:1])
+        return next(cited, "") or next(map(link_to, found), "")
 
     def module_page(self, module):
         items, link = self.project.on_page[module], self.link_in([module.crate])
@@ -133,22 +130,23 @@ class Site:
         inside = {it.module.rpartition(".")[2]: it for it in public_modules(module.crate)
                   if it.module and it.module.rpartition(".")[0] == module.module}
         inside |= {name: it for name, it in exports(module).items() if isinstance(it, Source)}
-        below = (f"{a(page_of(it), f'<code>{name}</code>')} {summary(it.doc)}"
-                 for name, it in inside.items())
+        modules = (f"{a(page_of(it), f'<code>{name}</code>')} {summary(it.doc)}"
+                   for name, it in inside.items())
         body = [f"<h1>{module.name()}</h1>", markdown(module.doc, link),
                 f"<p class=meta>Of the crate: {notes}</p>" if notes else "",
-                listed(below, "Modules"), listed(map(row, passed), "Re-exports"),
+                listed(modules, "Modules"), listed(map(row, passed), "Re-exports"),
                 listed(map(row, tops[1:] and tops), "Items"),
                 LEGEND if any(it.clauses for it in items) else ""]
         for top in tops:
-            inner = "".join(self.item(it, module, link) for it in items
+            inner = "".join(self.item(it, link) for it in items
                             if it.parent and it.anchor.startswith(f"{top.name}."))
-            body.append(self.item(top, module, link, inner))
+            body.append(self.item(top, link, inner))
         return "".join(body)
 
-    def item(self, item, module, link, inner=""):
+    def item(self, item, link, inner=""):
         """The section of an item, with the sections of what belongs to it."""
-        self.search.append([item.path(), item.kind, module.name(), link_to(item), plain(item.note)])
+        module = item.page.removesuffix(".html").replace(".", "::")
+        self.add_hit(item.path(), item.kind, module, link_to(item), item.note)
         text = "" if item.kind == "ghost" else html.escape(item.signature().strip())
         text = re.sub(r"(?m)^    ", "", text) if item.parent else text
         text = re.sub(r"\b[A-Z]\w+", lambda it: self.type_link(item, it[0]), text)
@@ -176,15 +174,15 @@ class Site:
     def cite(self, definitions):
         """Enters definitions and all below them, also those that values of ghost members cite.
         Returns those below without these values."""
-        below, todo = set(definitions), list(definitions)
+        found, todo = set(definitions), list(definitions)
         while todo:
-            new = todo.pop().parts[1] - below
-            below |= new
+            new = todo.pop().parts[1] - found
+            found |= new
             todo += new
-        for it in below - self.cited:
+        for it in found - self.cited:
             self.cited.add(it)
             self.cite(it.parts[2] - self.cited)
-        return below
+        return found
 
     def contract(self, item):
         """The claims and clauses of a function, or what contracts see of a type, or the value of a
@@ -206,35 +204,33 @@ class Site:
         return listed(rows, kind=" class=claims") + (self.clauses(item) if item.clauses else "")
 
     def clauses(self, item):
-        scope, known, below, parts = Scope(item.source, item), set(), set(), []
+        scope, known, found, parts = Scope(item.source, item), set(), set(), []
         hidden = binders(" ".join(it.text for it in item.clauses)) | {"result", "self"}
         arguments = re.findall(r"(\w+):(?!:)", item.head.partition("(")[2])
         hidden |= set(arguments) - set(scope.bounds)
         for clause in item.clauses:
             text = Text(re.sub(r"\n\s+", "\n  ", clause.text), scope, hidden)
             body, cited = text.html(signature_types(item))
-            below |= self.cite(cited)
+            found |= self.cite(cited)
             self.clause_texts.append((item, clause, text))
-            title = a(link_to(item, clause), f"<b>{clause.name}</b>")
+            link = link_to(item, clause)
             said = f"<p class=note>{inline(clause.note)}</p>" if clause.note else ""
-            parts.append(f'<div class=clause id="{html.escape(clause_anchor(item, clause))}">'
-                         f"<span class=kw>{clause.kind}</span> {title}{said}<pre>{body}</pre>"
-                         f"{gloss(cited, known)}</div>")
-        ours = sum(it.is_ours for it in below)
+            parts.append(f'<div class=clause id="{html.escape(link.partition("#")[2])}"><span '
+                         f"class=kw>{clause.kind}</span> {a(link, f'<b>{clause.name}</b>')}{said}"
+                         f"<pre>{body}</pre>{gloss(cited, known)}</div>")
+        ours = sum(it.is_ours for it in found)
         parts.append("<p class=meta><button class=all aria-expanded=false>Unfold all</button> It "
-                     f"rests on {ours} definitions of the project and {len(below) - ours} of the "
+                     f"rests on {ours} definitions of the project and {len(found) - ours} of the "
                      "toolchain.</p><div></div>")
         return "".join(parts)
 
     def mentions(self, item):
         """The proved callers of an item, the claims that it shows, the pages of the guide that cite
         it, and the mutations that its proof rejects."""
-        project = self.project
-        callers = project.callers[item]
+        project, callers = self.project, self.project.callers[item]
         mutations = [("", *it) for it in project.mutations[item]]
         mutations += [(f" of {it.path()}", *found) for it in callers for found in
                       project.mutations[it]]
-        more = len(callers) - MOST_CALLERS
         groups = {"proved caller": [f"Proved caller {row(it, f'{it.source.crate}::{it.path()}')}"
                                     for it in callers],
                   "claim": [f"Shows the claim: {row_link(it, inline(it.text))}"
@@ -245,8 +241,9 @@ class Site:
                                f"<code>{html.escape(new)}</code>" for of, name, new in mutations]}
         said = ", ".join(f"{len(rows)} {what}{'s' * (len(rows) > 1)}"
                          for what, rows in groups.items() if rows)
-        if more > 0:
-            groups["proved caller"][MOST_CALLERS:] = [f"{more} more proved callers"]
+        if len(callers) > MOST_CALLERS:
+            more = f"{len(callers) - MOST_CALLERS} more proved callers"
+            groups["proved caller"][MOST_CALLERS:] = [more]
         rows = listed(sum(groups.values(), []))
         return f"<details><summary>{said}</summary>{rows}</details>" if said else ""
 
@@ -257,20 +254,12 @@ class Site:
             there = (path.parent / file).resolve()
             if there in DOCUMENTS:
                 return document_page(there) + mark + anchor
-            if there.suffix == ".rt":
-                return self.link_at(there, *words.split(": ")) or "index.html"
-            return "index.html" if file and there.exists() else target
+            found = self.link_at(there, *words.split(": ")) if there.suffix == ".rt" else ""
+            return found or ("index.html" if file and there.exists() else target)
 
-        tests = [f"{it}_tests" for it in crates_of(path)]
-        link = self.link_in([*crates_of(path), *(it for it in tests if it in CRATES)])
-        return markdown(path.read_text(), link, href)
-
-    def link_at(self, path, name, clauses=""):
-        """Where an item of a file is documented, or its first clause of these; or nothing."""
-        found = [it for it in items_at(path, name) if it.anchor]
-        cited = (link_to(it, clause) for it in found for clause in it.clauses
-                 if clause.name and clause.name == clauses.split(", ")[0])
-        return next(cited, link_to(found[0]) if found else "")
+        named = crates_of(path)
+        crates = [*named, *(f"{it}_tests" for it in named if f"{it}_tests" in CRATES)]
+        return markdown(path.read_text(), self.link_in(crates), href)
 
     def index(self):
         shown = [[it for it in names if it in SHOWN] for names in layers()]
@@ -295,8 +284,7 @@ class Site:
         for it in sorted(self.cited, key=lambda it: it.key):
             by_crate[it.crate][it.ident] = [inline(it.doc), it.parts[0], f"{it.kind} of {it.where}"]
             if it.is_ours and it.kind == "definition":
-                self.search.append([it.name, it.kind, it.where, f"words.html#{it.key}",
-                                    plain(it.doc)])
+                self.add_hit(it.name, it.kind, it.where, f"words.html#{it.key}", it.doc)
         for crate, found in by_crate.items():
             self.add_data(f"d/{crate}.js", "define", crate, found)
         rows = (f'{a(f"words.html#{crate}", f"<code>{crate}</code>")} {len(found)}'

@@ -5,8 +5,8 @@ from collections import defaultdict
 
 from crate_list import ROOT, is_test_support
 from guarantees import LINK, claims, section_lines
-from source_reader import (CRATES, TYPES, exported_items, home_of, public_modules, source_at,
-                           sources, top_items)
+from source_reader import (CRATES, TYPES, exported_items, home_of, items_at, public_modules,
+                           source_at, sources, top_items)
 
 SHOWN = [it for it in CRATES if not it.startswith("rows") and it != "conformance"]
 TESTS = [it for it in SHOWN if is_test_support(it)]
@@ -35,20 +35,6 @@ def crates_of(path):
 
 def page_of(module):
     return f"{module.name().replace('::', '.')}.html"
-
-
-def meant(found, words):
-    """The items that are meant by `Type::function`, `Trait::function` or `function`."""
-    *owner, name = words.split("::")
-    return [it for it in found if it.name == name and it.kind != "ghost" and
-            (not owner or owner[-1] in (it.owner, it.source.crate, *(it.anchor or "").split(".")))]
-
-
-def items_at(path, words):
-    """The items that a link to a file means: the functions that its words name, or all."""
-    source = source_at(path)
-    found = list(source.every_item()) if source else []
-    return found if words.endswith(".rt") else meant(found, words)
 
 
 class Project:
@@ -114,9 +100,10 @@ class Project:
     def find(self, crate, words):
         """The items of a crate that a document means by a name, those with a page first; for a
         method without a page, also that of its trait."""
-        name = words.rpartition("::")[2]
-        found = meant((it for source in sources(crate) for it in source.by_name.get(name, [])),
-                      words)
+        *owner, name = words.split("::")
+        found = [it for source in sources(crate) for it in source.by_name.get(name, [])
+                 if it.kind != "ghost" and
+                 (not owner or owner[-1] in (it.owner, *(it.anchor or "").split(".")))]
         traits = {it.parent.trait for it in found if not it.anchor and it.parent} - {""}
         found += [it for it in self.by_name[name] if it.owner in traits]
         return sorted(found, key=lambda it: (not it.anchor, bool(it.parent)))
@@ -129,7 +116,7 @@ class Project:
         for claim in self.rows:
             callers = [item for name, _, path in claim.callers for item in items_at(path, name)]
             for name, clauses, path in claim.cited:
-                for item in items_at(path, name) if name[-3:] != ".rt" else []:
+                for item in items_at(path, name) if not path.match(name) else []:
                     self.claims[item].setdefault(claim, []).extend(clauses)
                     self.callers[item] |= {it: True for it in callers if it.anchor}
             for item in callers:

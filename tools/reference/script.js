@@ -71,8 +71,8 @@ function find() {
   const asked = by('query').value.toLowerCase().split(/[\s:.]+/).filter(Boolean), last = asked.at(-1), whole = asked.join('_')
   const rank = ([name, kind]) => {
     const short = name.toLowerCase().split('::').pop()
-    const near = [short == whole, short == last, short.startsWith(whole), short.startsWith(last), short.includes(last), true]
-    return near.indexOf(true) + (kind == 'definition' ? 0.5 : 0)
+    const near = [short == whole, short == last, short.startsWith(whole), kind == 'claim', short.startsWith(last), short.includes(last), true]
+    return near.indexOf(true) + (['definition', 'ghost'].includes(kind) ? 0.5 : 0)
   }
   const matches = (it) => asked.every((word) => `${it[2]} ${it[0]} ${it[4]}`.toLowerCase().includes(word))
   const hits = asked.length ? names.filter(matches).sort((a, b) => rank(a) - rank(b)).slice(0, 30) : []
