@@ -1,8 +1,11 @@
 -- Runs of a filter: the streams after it, and the exit status.
--- Cited by contracts of public items: CanFailBy, EndsBy, IsInputFailure, ended_status, ended_text,
--- is_read_failure, is_write_failure.
-use Rattle.std.specs.Prelude.{◌≡◌, ⊤, ℕ, Bool, true, false, List, Result, Ok, Err}
+-- Cited by contracts of public items: CanFailBy, ClosesBy, EndsBy, IsInputFailure, ended_status,
+-- ended_text, is_read_failure, is_write_failure.
+use Rattle.std.specs.Prelude.{◌≡◌, ◌↔◌, ⊤, ℕ, Bool, true, false, List, Result, Ok, Err}
 use Rattle.std.specs.Io.KnownBytes.{Appends, Consumes, IsAtEnd}
+use Rattle.std.specs.IoError.{error_kind}
+use Rattle.std.specs.declared.io.Error.{Error}
+use Rattle.std.specs.declared.io.ErrorKind.TheVariants.{BrokenPipe}
 use Rattle.jj_files.specs.Streams.{AppendsPrefixOf, Streams}
 use Rattle.jj_filter.specs.Reports.{failure_status, failure_text}
 use Rattle.jj_filter.specs.declared.failure.Failure.{Failure}
@@ -42,6 +45,13 @@ is_read_failure result = false
 abbrev pub is_write_failure : {O F : Type 0} → Result O (Failure F) → Bool
 is_write_failure (Err (WriteOutput is_closed)) = true
 is_write_failure result = false
+
+-- the output is said to be closed if and only if the error of the failed write, one of the sink's,
+-- is of kind BrokenPipe
+abbrev pub ClosesBy : {O F : Type 0} → (Error → Type 0) → Result O (Failure F) → Type 0
+ClosesBy may_fail (Err (WriteOutput is_closed)) = (e : Error) × may_fail e
+    × ((is_closed ≡ true) ↔ (error_kind e ≡ BrokenPipe))
+ClosesBy may_fail result = ⊤
 
 -- the message of a run that ended, given those of outcomes and of faults
 abbrev pub ended_text : {O F : Type 0} → (O → List ℕ) → (F → List ℕ) → Result O (Failure F) → List ℕ

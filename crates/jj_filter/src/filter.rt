@@ -3,7 +3,7 @@ ghost use Rattle.std.specs.Prelude.{◌≡◌, ◌≢◌, ℕ, List, false, IfOk
 ghost use Rattle.std.specs.Io.KnownBytes.{Consumes, IsAtEnd};
 ghost use Rattle.jj_files.specs.Streams.{streams};
 ghost use Rattle.jj_filter.specs.Reports.{Reports, report_line};
-ghost use Rattle.jj_filter.specs.Runs.{EndsBy, IsInputFailure, ended_status, ended_text, is_read_failure, is_write_failure};
+ghost use Rattle.jj_filter.specs.Runs.{ClosesBy, EndsBy, IsInputFailure, ended_status, ended_text, is_read_failure, is_write_failure};
 ghost use Rattle.jj_filter.specs.declared.failure.Failure.{Failure};
 
 use crate::failure::Failure;
@@ -86,6 +86,8 @@ pub fn run<P: Filter, R: Source, W: Sink>(
     // The sink has failed exactly if the failure says so.
     ensures write_failure { W.has_failed writer.old ≡ false
         → W.has_failed writer.new ≡ is_write_failure result }
+    // The output is closed exactly if the sink's error says so.
+    ensures closed { ClosesBy W.may_fail result }
 {
     let input = read_input(alloc, reader)?;
     let (output, outcome) = filter.output(alloc, &input)?;
@@ -114,6 +116,7 @@ pub fn start<P: Filter, R: Source, W: Sink, E: Sink>(
         (streams (R.remaining reader.new) (W.contents writer.new)) ended
         × (R.has_failed reader.old ≡ false → R.has_failed reader.new ≡ is_read_failure ended)
         × (W.has_failed writer.old ≡ false → W.has_failed writer.new ≡ is_write_failure ended)
+        × ClosesBy W.may_fail ended
         × (result ≡ ended_status P.Outcome.status P.Fault.status ended)
         × Reports (E.contents errors.old) (E.contents errors.new) (E.has_failed errors.new)
         (report_line program.now (ended_text P.Outcome.text P.Fault.text ended)) }
