@@ -2,7 +2,7 @@
 #![tactic(auto)]
 
 use jj_excerpts::excerpt;
-use jj_files::file_util::Watched;
+use jj_files::file_util::{StdIo, Watched};
 use jj_filter::arguments::{VERSION, arguments};
 use jj_filter::report::write_report;
 use jj_program::program;
@@ -68,7 +68,7 @@ fn report_wrong_word(rt: &HostRuntime, words: &[String]) {
 }
 
 fn main(rt: HostRuntime) -> ExitCode {
-    let mut errors = Watched::new(rt.stderr());
+    let mut errors = Watched::new(StdIo(rt.stderr()));
     let words = match arguments(&rt) {
         Ok(words) => words,
         Err(error) => return ExitCode::from(write_report(&mut errors, program::NAME, &error)),
@@ -82,8 +82,8 @@ fn main(rt: HostRuntime) -> ExitCode {
     } else if stdin.is_terminal() {
         let _ = eprintln!(rt; "jj-core: reads lines of TAB-separated fields, up to Ctrl-D");
     }
-    let mut reader = Watched::new(stdin);
-    let mut writer = Watched::new(rt.stdout());
+    let mut reader = Watched::new(StdIo(stdin));
+    let mut writer = Watched::new(StdIo(rt.stdout()));
     let status = program::start(rt.alloc(), &words, &mut reader, &mut writer, &mut errors);
     ExitCode::from(status)
 }

@@ -6,7 +6,7 @@ mod callers;
 use jj_fast_import::command::Command;
 use jj_fast_import::printing::push_command;
 use jj_fast_import::reader::{CommandReader, StreamError};
-use jj_files::file_util::{Source, Watched};
+use jj_files::file_util::{Source, StdIo, Watched};
 use std::alloc::Global;
 use std::io::{self, Write};
 use std::process::ExitCode;
@@ -27,7 +27,7 @@ fn copy_command<R: Source>(
 }
 
 fn copy_stream(rt: &HostRuntime) -> Result<(), StreamError> {
-    let mut reader = CommandReader::new(rt.alloc(), Watched::new(rt.reader()));
+    let mut reader = CommandReader::new(rt.alloc(), Watched::new(StdIo(rt.reader())));
     let mut writer = io::writer(rt);
     for _ in 0..u64::MAX {
         let mut out = Vec::new(rt.alloc());

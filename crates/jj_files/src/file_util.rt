@@ -1,5 +1,5 @@
 //! Copying between byte streams, over traits whose contracts track the bytes and the failures.
-ghost use Rattle.std.specs.Prelude.{◌≡◌, ℕ, ◌<◌, ◌-◌, Bool, false, List, ◌⊎◌, IfErr, IfOk, IsErrAnd, OnOk, Option, is_err, ◌||◌};
+ghost use Rattle.std.specs.Prelude.{◌≡◌, ◌⊎◌, ℕ, ◌-◌, Bool, false, List, IfErr, IfOk, IsErrAnd, OnOk, Option, is_err, ◌||◌};
 ghost use Rattle.std.specs.Io.{ReadsAtMost, WritesAtMost};
 ghost use Rattle.std.specs.Io.KnownBytes.{Appends, ReadConsumes, WriteAppends};
 ghost use Rattle.std.specs.IoError.{error_kind};
@@ -98,26 +98,13 @@ impl<T> Watched<T> {
 }
 
 impl<T> Watched<T> {
-    // Counts a read and records whether it failed.
-    fn record_read(&mut self, outcome: io::Result<usize>) -> io::Result<usize>
-        requires { 0 < watched_reads_left self.old }
+    // Records whether a call failed.
+    fn record(&mut self, outcome: io::Result<usize>) -> io::Result<usize>
         ensures outcome { result ≡ outcome }
         ensures inner { watched_inner self.new ≡ watched_inner self.old }
         ensures failure { RecordsFailure
             (watched_failed self.old) (watched_failed self.new) result }
-        ensures counted { watched_reads_left self.new ≡ watched_reads_left self.old - 1 }
-    {
-        self.reads_left -= 1;
-        self.failed = self.failed || outcome.is_err();
-        outcome
-    }
-
-    // Records whether a write failed.
-    fn record_write(&mut self, outcome: io::Result<usize>) -> io::Result<usize>
-        ensures outcome { result ≡ outcome }
-        ensures inner { watched_inner self.new ≡ watched_inner self.old }
-        ensures failure { RecordsFailure
-            (watched_failed self.old) (watched_failed self.new) result }
+        ensures reads { watched_reads_left self.new ≡ watched_reads_left self.old }
     {
         self.failed = self.failed || outcome.is_err();
         outcome
@@ -156,7 +143,8 @@ impl<R: ByteRead> Source for Watched<R> {
             return Err(io::Error::other("too many reads"));
         }
         let outcome = self.inner.read(buf);
-        self.record_read(outcome)
+        self.reads_left -= 1;
+        self.record(outcome)
     }
 }
 
@@ -170,7 +158,7 @@ impl<W: ByteWrite> Sink for Watched<W> {
     /// Writes to the wrapped writer.
     fn write(&mut self, piece: &[u8]) -> io::Result<usize> {
         let outcome = self.inner.write(piece);
-        self.record_write(outcome)
+        self.record(outcome)
     }
 }
 

@@ -10,14 +10,14 @@ mod program;
 #[cfg(test)]
 mod tests;
 
-use jj_files::file_util::Watched;
+use jj_files::file_util::{StdIo, Watched};
 use jj_filter::arguments::arguments;
 use jj_filter::report::write_report;
 use std::io::IsTerminal;
 use std::process::ExitCode;
 
 fn main(rt: HostRuntime) -> ExitCode {
-    let mut errors = Watched::new(rt.stderr());
+    let mut errors = Watched::new(StdIo(rt.stderr()));
     let words = match arguments(&rt) {
         Ok(words) => words,
         Err(error) => return ExitCode::from(write_report(&mut errors, program::NAME, &error)),
@@ -26,8 +26,8 @@ fn main(rt: HostRuntime) -> ExitCode {
     if program::reads_input(&words) && stdin.is_terminal() {
         let _ = eprintln!(rt; "jj-filesets: reads a list of paths, a line each, up to Ctrl-D");
     }
-    let mut reader = Watched::new(stdin);
-    let mut writer = Watched::new(rt.stdout());
+    let mut reader = Watched::new(StdIo(stdin));
+    let mut writer = Watched::new(StdIo(rt.stdout()));
     let status = program::start(rt.alloc(), &words, &mut reader, &mut writer, &mut errors);
     ExitCode::from(status)
 }

@@ -6,7 +6,7 @@ ghost use Rattle.jj_filesets.specs.Listing.{IsListError};
 ghost use Rattle.jj_filesets.specs.SyntaxTrees.{SyntaxTree};
 ghost use Rattle.jj_filesets.specs.declared.listing.ListOptions.{ListOptions as ListOptionsValue};
 ghost use Rattle.jj_filter.specs.Reports.{Reports, report_line};
-ghost use Rattle.jj_filter.specs.Runs.{EndsBy, IsInputFailure, is_read_failure, is_write_failure};
+ghost use Rattle.jj_filter.specs.Runs.{ClosesBy, EndsBy, IsInputFailure, is_read_failure, is_write_failure};
 ghost use Rattle.jj_filter.specs.declared.failure.Failure.{Failure};
 ghost use Rattle.jj_filesets_cli.specs.CommandLines.{command_line};
 ghost use Rattle.jj_filesets_cli.specs.Runs.{IsExpressionFault, IsFaultOfList, IsRefusedBy, Selects, command_error_status, command_error_text, place_at, report_text, status_of};
@@ -185,6 +185,7 @@ fn select<R: Source, W: Sink, E: Sink>(
         (streams (R.remaining reader.new) (W.contents writer.new)) ended
         × (R.has_failed reader.old ≡ false → R.has_failed reader.new ≡ is_read_failure ended)
         × (W.has_failed writer.old ≡ false → W.has_failed writer.new ≡ is_write_failure ended)
+        × ClosesBy W.may_fail ended
         × (result ≡ status_of ended)
         × Reports (E.contents errors.old) (E.contents errors.new) (E.has_failed errors.new)
         (report_text ended)) }

@@ -46,8 +46,8 @@ abbrev pub is_write_failure : {O F : Type 0} → Result O (Failure F) → Bool
 is_write_failure (Err (WriteOutput is_closed)) = true
 is_write_failure result = false
 
--- the output is said to be closed if and only if the error of the failed write, one of the sink's,
--- is of kind BrokenPipe
+-- a failed write is one to a closed output if and only if its error, one of the sink's, is of kind
+-- BrokenPipe
 abbrev pub ClosesBy : {O F : Type 0} → (Error → Type 0) → Result O (Failure F) → Type 0
 ClosesBy may_fail (Err (WriteOutput is_closed)) = (e : Error) × may_fail e
     × ((is_closed ≡ true) ↔ (error_kind e ≡ BrokenPipe))

@@ -86,7 +86,7 @@ pub fn run<P: Filter, R: Source, W: Sink>(
     // The sink has failed exactly if the failure says so.
     ensures write_failure { W.has_failed writer.old ≡ false
         → W.has_failed writer.new ≡ is_write_failure result }
-    // The output is closed exactly if the sink's error says so.
+    // A failed write is one to a closed output exactly if the sink's error is a broken pipe.
     ensures closed { ClosesBy W.may_fail result }
 {
     let input = read_input(alloc, reader)?;

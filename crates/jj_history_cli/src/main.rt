@@ -10,7 +10,7 @@ mod session;
 
 use crate::fault::Fault;
 use crate::session::run_on_store;
-use jj_files::file_util::{Watched, write_all};
+use jj_files::file_util::{StdIo, Watched, write_all};
 use jj_filter::arguments::{VERSION, arguments};
 use jj_filter::report::write_report;
 use jj_history_commands::arguments::{Command, Request, parse_words};
@@ -45,8 +45,8 @@ fn run(rt: &HostRuntime, file: &str, command: &Command) -> Result<Vec<u8>, Fault
     }
     let stderr = rt.stderr();
     let on_terminal = imports && stderr.is_terminal();
-    let mut errors = Watched::new(stderr);
-    let source = Watched::new(stdin);
+    let mut errors = Watched::new(StdIo(stderr));
+    let source = Watched::new(StdIo(stdin));
     let opened = open_store_file(rt, file, PATIENCE);
     run_on_store(alloc, opened, command, source, &mut errors, on_terminal)
 }
@@ -59,7 +59,7 @@ fn report(rt: &HostRuntime, file: &str, fault: &Fault) {
 }
 
 fn write_output(rt: &HostRuntime, output: &[u8]) -> ExitCode {
-    match write_all(&mut Watched::new(rt.stdout()), output) {
+    match write_all(&mut Watched::new(StdIo(rt.stdout())), output) {
         Ok(()) => ExitCode::SUCCESS,
         Err(error) => {
             if error.kind() != ErrorKind::BrokenPipe {
@@ -102,7 +102,7 @@ fn main(rt: HostRuntime) -> ExitCode {
     let words = match arguments(&rt) {
         Ok(words) => words,
         Err(error) => {
-            let mut errors = Watched::new(rt.stderr());
+            let mut errors = Watched::new(StdIo(rt.stderr()));
             return ExitCode::from(write_report(&mut errors, NAME, &error));
         }
     };

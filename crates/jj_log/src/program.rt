@@ -2,7 +2,7 @@
 ghost use Rattle.std.specs.Prelude.{◌≡◌, ◌⊎◌, ℕ, List, Result, IfOk, IfErr, MatchBool, false, get_or, string_bytes};
 ghost use Rattle.jj_files.specs.Streams.{streams};
 ghost use Rattle.jj_filter.specs.Reports.{Reports};
-ghost use Rattle.jj_filter.specs.Runs.{EndsBy, IsInputFailure, is_read_failure, is_write_failure};
+ghost use Rattle.jj_filter.specs.Runs.{ClosesBy, EndsBy, IsInputFailure, is_read_failure, is_write_failure};
 ghost use Rattle.jj_filter.specs.declared.failure.Failure.{Failure};
 ghost use Rattle.jj_log.specs.InputLines.{AreCommitsOf, DrawsInput};
 ghost use Rattle.jj_log.specs.Labels.{name_of};
@@ -169,6 +169,7 @@ pub fn start<R: Source, W: Sink, E: Sink>(
         (streams (R.remaining reader.new) (W.contents writer.new)) ended
         × (R.has_failed reader.old ≡ false → R.has_failed reader.new ≡ is_read_failure ended)
         × (W.has_failed writer.old ≡ false → W.has_failed writer.new ≡ is_write_failure ended)
+        × ClosesBy W.may_fail ended
         × (result ≡ status_of ended)
         × Reports (E.contents errors.old) (E.contents errors.new) (E.has_failed errors.new)
         (report_text ended) }

@@ -1,7 +1,7 @@
 //! The program `jj-log`: draws the commits of standard input as a graph.
 #![tactic(auto)]
 
-use jj_files::file_util::Watched;
+use jj_files::file_util::{StdIo, Watched};
 use jj_filter::arguments::arguments;
 use jj_filter::report::write_report;
 use jj_log::program;
@@ -9,7 +9,7 @@ use std::io::IsTerminal;
 use std::process::ExitCode;
 
 fn main(rt: HostRuntime) -> ExitCode {
-    let mut errors = Watched::new(rt.stderr());
+    let mut errors = Watched::new(StdIo(rt.stderr()));
     let words = match arguments(&rt) {
         Ok(words) => words,
         Err(error) => return ExitCode::from(write_report(&mut errors, program::NAME, &error)),
@@ -18,8 +18,8 @@ fn main(rt: HostRuntime) -> ExitCode {
     if program::reads(&words) && stdin.is_terminal() {
         let _ = eprintln!(rt; "jj-log: reads commits, a line each, up to Ctrl-D");
     }
-    let mut reader = Watched::new(stdin);
-    let mut writer = Watched::new(rt.stdout());
+    let mut reader = Watched::new(StdIo(stdin));
+    let mut writer = Watched::new(StdIo(rt.stdout()));
     let status = program::start(rt.alloc(), &words, &mut reader, &mut writer, &mut errors);
     ExitCode::from(status)
 }

@@ -2,7 +2,7 @@
 ghost use Rattle.std.specs.Prelude.{◌≤◌, length};
 
 use crate::fixtures::equals;
-use jj_files::file_util::{Sink, Watched, copy};
+use jj_files::file_util::{Sink, StdIo, Watched, copy};
 use std::io;
 use std::io::{ErrorKind, Read, Write};
 use std::process::Abort;
@@ -76,19 +76,19 @@ fn run_copy(
     reads: u32,
     writes: u32,
 ) -> (Result<usize, ErrorKind>, usize, bool) {
-    let mut reader = Watched::new(ShortReader {
+    let mut reader = Watched::new(StdIo(ShortReader {
         position: 0,
         len,
         most,
         left: reads,
-    });
+    }));
     let mut taken = ShortWriter {
         len: 0,
         same: true,
         most,
         left: writes,
     };
-    let mut writer = Watched::new(&mut taken);
+    let mut writer = Watched::new(StdIo(&mut taken));
     let end = match copy(&mut reader, &mut writer) {
         Ok(count) => Ok(count),
         Err(error) => Err(error.kind()),
@@ -129,12 +129,12 @@ fn each_write_fails_in_turn(rt: HostRuntime) {
 #[test]
 fn a_writer_that_takes_nothing_has_failed(rt: HostRuntime) {
     let mut reader = Watched::new(b"abc".as_slice());
-    let mut writer = Watched::new(ShortWriter {
+    let mut writer = Watched::new(StdIo(ShortWriter {
         len: 0,
         same: true,
         most: 0,
         left: 1,
-    });
+    }));
     match copy(&mut reader, &mut writer) {
         Ok(_) => panic!(rt; "nothing was written"),
         Err(e) => equals(&rt, &e.kind(), &ErrorKind::WriteZero),
@@ -143,12 +143,12 @@ fn a_writer_that_takes_nothing_has_failed(rt: HostRuntime) {
 
 // Returns the result of one write to a watched writer.
 fn run_write(most: usize, left: u32, piece: &[u8]) -> Result<usize, ErrorKind> {
-    let mut writer = Watched::new(ShortWriter {
+    let mut writer = Watched::new(StdIo(ShortWriter {
         len: 0,
         same: true,
         most,
         left,
-    });
+    }));
     match Sink::write(&mut writer, piece) {
         Ok(count) => Ok(count),
         Err(error) => Err(error.kind()),

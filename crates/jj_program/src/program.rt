@@ -2,7 +2,7 @@
 ghost use Rattle.std.specs.Prelude.{◌≡◌, map, false, Result, Ok, Err, IfOk, IfErr, IfSome, None, string_bytes};
 ghost use Rattle.jj_files.specs.Streams.{streams};
 ghost use Rattle.jj_filter.specs.Reports.{Reports, WritesLine};
-ghost use Rattle.jj_filter.specs.Runs.{EndsBy, IsInputFailure, is_read_failure, is_write_failure};
+ghost use Rattle.jj_filter.specs.Runs.{ClosesBy, EndsBy, IsInputFailure, is_read_failure, is_write_failure};
 ghost use Rattle.jj_filter.specs.declared.failure.Failure.{Failure};
 ghost use Rattle.jj_program.specs.Program.{command_named, command_line, HasResult, OutputsOf, FaultsOf, ReportsOf};
 ghost use Rattle.jj_program.specs.Reports.{report_text, status_of, usage_text};
@@ -149,6 +149,7 @@ pub fn start<R: Source, W: Sink, E: Sink>(
         (streams (R.remaining reader.new) (W.contents writer.new)) ended
         × (R.has_failed reader.old ≡ false → R.has_failed reader.new ≡ is_read_failure ended)
         × (W.has_failed writer.old ≡ false → W.has_failed writer.new ≡ is_write_failure ended)
+        × ClosesBy W.may_fail ended
         × (result ≡ status_of ended)
         × Reports (E.contents errors.old) (E.contents errors.new) (E.has_failed errors.new)
         (report_text ended)) }

@@ -1,6 +1,6 @@
 //! Runs of the program with short and failing reads and writes.
 use crate::ends::{Cut, Kept};
-use jj_files::file_util::Watched;
+use jj_files::file_util::{StdIo, Watched};
 use jj_filter::failure::Failure;
 use jj_filter::filter::run;
 use jj_program::program::{Command, FaultReport};
@@ -17,13 +17,13 @@ pub fn outcome(
     reads: u32,
     writes: u32,
 ) -> (Result<(), Failure<FaultReport>>, Kept) {
-    let mut reader = Watched::new(Cut {
+    let mut reader = Watched::new(StdIo(Cut {
         rest: input,
         most,
         left: reads,
-    });
+    }));
     let mut kept = Kept::new(most, writes);
-    let mut writer = Watched::new(&mut kept);
+    let mut writer = Watched::new(StdIo(&mut kept));
     let result = run(alloc, &command, &mut reader, &mut writer);
     (result, kept)
 }

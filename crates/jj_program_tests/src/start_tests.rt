@@ -3,7 +3,7 @@
 #[cfg(test)]
 mod tests {
     use crate::ends::{Cut, Kept};
-    use jj_files::file_util::Watched;
+    use jj_files::file_util::{StdIo, Watched};
     use jj_program::program::start;
     use std::alloc::Global;
     use std::io::ErrorKind;
@@ -18,19 +18,19 @@ mod tests {
         input: &[u8],
         error_writes: u32,
     ) -> (u8, Kept, Kept) {
-        let mut reader = Watched::new(Cut {
+        let mut reader = Watched::new(StdIo(Cut {
             rest: input,
             most: 1000,
             left: 1000,
-        });
+        }));
         let mut output = Kept::new(1000, 1000);
         let mut errors = Kept::new(1000, error_writes);
         let status = start(
             alloc,
             words,
             &mut reader,
-            &mut Watched::new(&mut output),
-            &mut Watched::new(&mut errors),
+            &mut Watched::new(StdIo(&mut output)),
+            &mut Watched::new(StdIo(&mut errors)),
         );
         (status, output, errors)
     }
@@ -60,19 +60,19 @@ mod tests {
             // An output that its reader has closed is not reported.
             (1000, 0, ErrorKind::BrokenPipe, ""),
         ] {
-            let mut reader = Watched::new(Cut {
+            let mut reader = Watched::new(StdIo(Cut {
                 rest: b"mark\ta\neverything\n",
                 most: 1000,
                 left: reads,
-            });
+            }));
             let mut output = Kept::failing(1000, writes, kind);
             let mut errors = Kept::new(1000, 1000);
             let status = start(
                 rt.alloc(),
                 &words,
                 &mut reader,
-                &mut Watched::new(&mut output),
-                &mut Watched::new(&mut errors),
+                &mut Watched::new(StdIo(&mut output)),
+                &mut Watched::new(StdIo(&mut errors)),
             );
             assert_eq!(rt; status, 1);
             assert!(rt; output.as_slice().is_empty());

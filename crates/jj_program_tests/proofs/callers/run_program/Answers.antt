@@ -14,4 +14,4 @@ returns c =
     (Some (watched_inner c.start-status.new.reader).now) (watched_inner c.new-writer.result).items (watched_inner c.start-status.new.writer).items c.into_inner.result.items
     (ap (λ v. v.items) c.new-writer.ensures.inner ∙ c.new.ensures.items) (ap (λ v. v.items) c.into_inner.ensures) c.start-status.result
     (λ none. let u = c.start-status.ensures.usage none in (u.0, u.2))
-    (IfSome_then line c.start-status.ensures.run (λ command run. (run.0, run.1, run.4)))
+    (IfSome_then line c.start-status.ensures.run (λ command run. (run.0, run.1, run.5)))
