@@ -330,9 +330,10 @@ class Scope(Names):
         self.bounds = defaultdict(list)
         for name, traits in re.findall(r"\b([A-Z]\w*)\s*:(?!:)\s*([^,;{]*)", heads):
             self.bounds[name] += re.findall(r"(?:^|\+)\s*(?:\w+::)*([A-Z]\w*)", traits)
-        self.traits = [it.trait for it in around if it.trait][:1]
-        self.bounds["Self"] += self.traits
-        self.dyns = dict.fromkeys(re.findall(r"dyn (\w+)", source.text))
+        own = [it.trait for it in around if it.trait][:1]
+        self.bounds["Self"] += own
+        # The traits whose ghost members a text calls by their bare names.
+        self.traits = [*own, *dict.fromkeys(re.findall(r"dyn (\w+)", source.text))]
 
     def find(self, token):
         crate, (head, *rest) = self.crate, token.split(".")
@@ -343,10 +344,9 @@ class Scope(Names):
             return super().find(token)
         if not rest and (found := first(ghost_member(crate, it, head) for it in self.traits)):
             return found
-        if head[:1].isupper():
-            crates = below(crate) if crate in CRATES else [crate]
-            return None if head in self.bounds else declared_type(head, crates)
-        return None if rest else first(ghost_member(crate, it, head) for it in self.dyns)
+        if not head[:1].isupper() or head in self.bounds:
+            return None
+        return declared_type(head, below(crate) if crate in CRATES else [crate])
 
     def member(self, crate, head, rest):
         """A ghost member of a type that is given by its traits, or a word of a closure."""

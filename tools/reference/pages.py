@@ -228,23 +228,21 @@ class Site:
         """The proved callers of an item, the claims that it shows, the pages of the guide that cite
         it, and the mutations that its proof rejects."""
         project, callers = self.project, self.project.callers[item]
-        mutations = [("", *it) for it in project.mutations[item]]
-        mutations += [(f" of {it.path()}", *found) for it in callers for found in
-                      project.mutations[it]]
-        groups = {"proved caller": [f"Proved caller {row(it, f'{it.source.crate}::{it.path()}')}"
-                                    for it in callers],
-                  "claim": [f"Shows the claim: {row_link(it, inline(it.text))}"
-                            for it in project.shows[item]],
-                  "guide page": [f"Guide: {a(document_page(it), inline(title_of(it)))}"
-                                 for it in dict.fromkeys(project.guide[item])],
-                  "mutation": [f"Mutation{of} that is rejected: <code>{name}</code>, "
-                               f"<code>{html.escape(new)}</code>" for of, name, new in mutations]}
-        said = ", ".join(f"{len(rows)} {what}{'s' * (len(rows) > 1)}"
-                         for what, rows in groups.items() if rows)
+        rejected = [("", *it) for it in project.mutations[item]]
+        rejected += [(f"of {caller.path()}: ", *it) for caller in callers
+                     for it in project.mutations[caller]]
+        pages = dict.fromkeys(project.guide[item])
+        groups = {"proved caller": [row(it, f"{it.source.crate}::{it.path()}") for it in callers],
+                  "shown claim": [row_link(it, inline(it.text)) for it in project.shows[item]],
+                  "guide page": [a(document_page(it), inline(title_of(it))) for it in pages],
+                  "rejected mutation": [f"{of}<code>{name}</code>, <code>{html.escape(new)}</code>"
+                                        for of, name, new in rejected]}
+        said = ", ".join(f"{len(rows)} {kind}{'s' * (len(rows) > 1)}"
+                         for kind, rows in groups.items() if rows)
         if len(callers) > MOST_CALLERS:
-            more = f"{len(callers) - MOST_CALLERS} more proved callers"
+            more = f"{len(callers) - MOST_CALLERS} more"
             groups["proved caller"][MOST_CALLERS:] = [more]
-        rows = listed(sum(groups.values(), []))
+        rows = listed(f"{kind.capitalize()}: {it}" for kind, rows in groups.items() for it in rows)
         return f"<details><summary>{said}</summary>{rows}</details>" if said else ""
 
     def document(self, path):
