@@ -9,7 +9,7 @@ from .project import SHOWN
 
 PUBLIC = re.compile(r'(?: {4})?pub (?:const |unsafe |extern "C" )*'
                     r"(?:fn|struct|enum|trait|type|const|static)\b")
-LINK = re.compile(r'<a (href|w|k)=\\?"([^"\\]*)')
+LINK, ANCHOR = re.compile(r'<a (href|w|k)=\\?"([^"\\]*)'), re.compile(r'\bid="([^"]*)"')
 BUILT_IN = set("ℕ zero suc min max + - * / % ^ < ≤".split())
 # Names that the toolchain makes, and words that contracts have without a definition.
 GENERATED = re.compile(r"the_row$|(Some|None|Ok|Err|Type|Unit|Self|[A-Z]{1,2}\d?)\b")
@@ -20,19 +20,17 @@ def faults(site):
     for crate in SHOWN:
         yield from items_without_page(crate)
     for item, clause, text in site.clause_texts:
-        for it in filter(lambda it: is_unknown(it, text.scope), text.missing()):
+        for it in filter(lambda it: is_unknown(it, text.scope), text.missing):
             yield (f"crates/{item.where()}: {item.path()}: the clause "
                    f"{clause.name} cites {it}, which is not found")
-    ids = {name: set(map(html.unescape, re.findall(r'\bid="([^"]*)"', text)))
-           for name, text in site.files.items() if name.endswith(".html")}
-    words = {it.key for it in site.cited} | {it.crate for it in site.cited}
+    there = {f"{name}#{html.unescape(it)}" for name, text in site.files.items()
+             for it in ANCHOR.findall(text)}
+    there |= {f"words.html#{it}" for word in site.cited for it in (word.key, word.crate)}
+    there |= {*site.files, *(f"{name}#" for name in site.files)}
     for name, text in site.files.items():
         for kind, target in dict.fromkeys(LINK.findall(text)) if name != "script.js" else []:
-            target = html.unescape(target if kind == "href" else f"words.html#{target}")
-            file, _, anchor = target.partition("#")
-            is_there = file in ids and (not anchor or anchor in ids[file])
-            is_word = file == "words.html" and anchor in words
-            if not (is_there or is_word or target.startswith("http")):
+            target = target if kind == "href" else f"words.html#{target}"
+            if html.unescape(target) not in there and not target.startswith("http"):
                 yield f"{name}: the link to {target} leads nowhere"
 
 

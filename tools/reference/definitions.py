@@ -108,29 +108,21 @@ def binders(text):
 
 
 class Text:
-    """A text of a contract or a definition, with the meanings of its words."""
+    """A text of a contract or a definition: its tokens with the definitions that they cite, and the
+    names without a definition. No comment, string, field of a value or variable is looked up."""
 
     def __init__(self, text, scope, hidden=None, token=TOKEN):
-        self.text, self.scope = text, scope
-        self.hidden = binders(text) if hidden is None else hidden
-        self.tokens = [(it, self.meaning(it)) for it in token.finditer(text)]
+        self.text, self.scope, self.tokens, self.missing = text, scope, [], []
+        hidden = binders(text) if hidden is None else hidden
+        for it in token.finditer(text):
+            target, is_field = None, text[it.start() - 1:it.start()] == "."
+            if it["member"]:
+                target = ghost_member(scope.crate, it["trait"], it["member"])
+            elif not (is_field or it["aside"] or it[0].split(".")[0] in hidden):
+                target = scope.find(it[0])
+                self.missing += [] if target else [it[0]]
+            self.tokens.append((it, target))
         self.links = {it for _, it in self.tokens if it}
-
-    def meaning(self, found):
-        """The definition that a token cites, or None."""
-        if found["member"]:
-            return ghost_member(self.scope.crate, found["trait"], found["member"])
-        return self.scope.find(found[0]) if self.is_name(found) else None
-
-    def is_name(self, found):
-        """Whether a token is looked up: no comment, string, field of a value, or variable."""
-        is_field = self.text[found.start() - 1:found.start()] == "."
-        return not (is_field or found["aside"] or found[0].split(".")[0] in self.hidden)
-
-    def missing(self):
-        """The names without a definition."""
-        return [it[0] for it, target in self.tokens
-                if not (target or it["member"]) and self.is_name(it)]
 
     def spans(self, roots):
         """The tokens that are marked, and the fields of what is below these definitions."""

@@ -159,11 +159,11 @@ class Project:
 def called_types(caller, owners, types):
     """The types that have a method of some name and that the caller names, or else its file if no
     other type has one; none if several are left. `types` has those of each trait."""
-    def named(text):
+    head = caller.head + (caller.parent.head if caller.parent else "")
+    is_only = len(owners - types.keys()) == 1
+    for text in (head + caller.body, head, caller.source.text if is_only else ""):
         words = set(re.findall(r"\w+", text))
-        return {it for it in owners if it in words or words & types.get(it, set())}
-
-    head = named(caller.head + (caller.parent.head if caller.parent else ""))
-    near = (head | named(caller.body), head)
-    near += (owners & named(caller.source.text),) if len(owners - types.keys()) == 1 else ()
-    return next((it for it in near if it and len(it - types.keys()) <= 1), set())
+        named = {it for it in owners if it in words or words & types.get(it, set())}
+        if named and len(named - types.keys()) <= 1:
+            return named
+    return set()
