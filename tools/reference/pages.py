@@ -132,7 +132,9 @@ class Site:
         inside |= {name: it for name, it in exports(module).items() if isinstance(it, Source)}
         modules = (f"{a(page_of(it), f'<code>{name}</code>')} {summary(it.doc)}"
                    for name, it in inside.items())
-        body = [f"<h1>{module.name()}</h1>", markdown(module.doc, link),
+        claims = (row_link(it, inline(it.text)) for it in self.project.rows
+                  if module.name() == it.crate)
+        body = [f"<h1>{module.name()}</h1>", markdown(module.doc, link), listed(claims, "Claims"),
                 f"<p class=meta>Of the crate: {notes}</p>" if notes else "",
                 listed(modules, "Modules"), listed(map(row, passed), "Re-exports"),
                 listed(map(row, tops[1:] and tops), "Items"),
