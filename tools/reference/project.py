@@ -109,18 +109,22 @@ class Project:
         return sorted(found, key=lambda it: (not it.anchor, bool(it.parent)))
 
     def read_guarantees(self):
-        """Enters each claim, with the clauses, at the functions that it cites, and the callers."""
+        """Enters each claim, with the clauses, at the functions that it cites, and its callers at
+        those that they call, or at all if they call none by its name."""
         for _, crate, line in section_lines():
             if not line.startswith("|"):
                 self.notes[crate].append(LINK.sub(r"\1", line))
         for claim in self.rows:
-            callers = [item for name, _, path in claim.callers for item in items_at(path, name)]
-            for name, clauses, path in claim.cited:
-                for item in items_at(path, name) if not path.match(name) else []:
-                    self.claims[item].setdefault(claim, []).extend(clauses)
-                    self.callers[item] |= {it: True for it in callers if it.anchor}
-            for item in callers:
-                self.shows[item].append(claim)
+            cited = [(item, clauses) for name, clauses, path in claim.cited
+                     if not path.match(name) for item in items_at(path, name)]
+            for item, clauses in cited:
+                self.claims[item].setdefault(claim, []).extend(clauses)
+            for caller in (it for name, _, path in claim.callers for it in items_at(path, name)):
+                self.shows[caller].append(claim)
+                names = {item.name for item, _ in cited}
+                names = names & {it for *_, it in CALL.findall(caller.body)} or names
+                for item in (item for item, _ in cited if item.name in names and caller.anchor):
+                    self.callers[item][caller] = True
 
     def read_mutations(self):
         """Enters each mutation at the functions that it changes, or if these have no page at those
