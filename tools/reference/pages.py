@@ -231,13 +231,13 @@ class Site:
         it, and the mutations that its proof rejects."""
         project, callers = self.project, self.project.callers[item]
         rejected = [("", *it) for it in project.mutations[item]]
-        rejected += [(f"of {caller.path()}: ", *it) for caller in callers
-                     for it in project.mutations[caller]]
+        rejected += [(f" of {caller.source.crate}::{caller.path()}", *it)
+                     for caller in callers for it in project.mutations[caller]]
         pages = dict.fromkeys(project.guide[item])
         groups = {"proved caller": [row(it, f"{it.source.crate}::{it.path()}") for it in callers],
                   "shown claim": [row_link(it, inline(it.text)) for it in project.shows[item]],
                   "guide page": [a(document_page(it), inline(title_of(it))) for it in pages],
-                  "rejected mutation": [f"{of}<code>{name}</code>, <code>{html.escape(new)}</code>"
+                  "rejected mutation": [f"{name}{of}, <code>{html.escape(new)}</code>"
                                         for of, name, new in rejected]}
         said = ", ".join(f"{len(rows)} {kind}{'s' * (len(rows) > 1)}"
                          for kind, rows in groups.items() if rows)
