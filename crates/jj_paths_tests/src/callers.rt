@@ -1,7 +1,9 @@
 //! Callers of paths, path trees and `copy`, proved from the contracts of these.
-ghost use Rattle.std.specs.Prelude.{◌≡◌, ◌≢◌, ◌+◌, ◌-◌, ◌^◌, min, false, IsOk, IfOk, IfErr, OnOk, OnErr, IsTrue, string_bytes};
+ghost use Rattle.std.specs.Prelude.{◌≡◌, ◌≢◌, ◌⊎◌, ◌+◌, ◌-◌, ◌^◌, min, false, IsOk, IfOk, IfErr, OnOk, OnErr, IsTrue, string_bytes};
 ghost use Rattle.std.specs.Option.{option_copied};
 ghost use Rattle.std.specs.Io.KnownBytes.{Appends};
+ghost use Rattle.std.specs.IoError.{error_kind};
+ghost use Rattle.std.specs.declared.io.ErrorKind.TheVariants.{OutOfMemory, Other};
 ghost use Rattle.jj_paths.specs.Paths.{Path, is_path_string};
 ghost use Rattle.jj_paths.specs.Names.{path_of};
 ghost use Rattle.jj_files.specs.Streams.{AppendsPrefixOf};
@@ -68,18 +70,22 @@ pub fn rejoin(alloc: Global, text: &str) -> Result<String, InvalidNewRepoPathErr
     }
 }
 
-/// Writes all bytes to a sink, in one write or more. After an error the sink has a prefix of them.
+/// Writes all bytes to a sink, in one write or more. Returns the sink's error, or one of kind
+/// `Other` after 2^64 - 1 reads of the bytes; the sink then has a prefix of them.
 pub fn send<W: Sink>(bytes: &[u8], sink: &mut W) -> io::Result<usize>
     requires { W.has_failed sink.old ≡ false }
     ensures all { OnOk result (Appends (W.contents sink.old) (W.contents sink.new) bytes.now) }
     ensures prefix { AppendsPrefixOf (W.contents sink.old) (W.contents sink.new) bytes.now }
+    ensures error { IfErr result (λ e. W.may_fail e ⊎ (error_kind e ≡ Other)) }
 {
     copy(&mut Watched::new(bytes), sink)
 }
 
-/// Copies the bytes through a sink in memory.
+/// Copies the bytes through a sink in memory. Fails with kind `OutOfMemory`, or with kind `Other`
+/// after 2^64 - 1 reads of the bytes.
 pub fn copy_through_sink(alloc: Global, bytes: &[u8]) -> io::Result<Vec<u8>>
-    ensures { IfOk result (λ list. list.items ≡ bytes.now) }
+    ensures same { IfOk result (λ list. list.items ≡ bytes.now) }
+    ensures error { IfErr result (λ e. (error_kind e ≡ OutOfMemory) ⊎ (error_kind e ≡ Other)) }
 {
     let mut sink = Watched::new(Vec::new(alloc));
     send(bytes, &mut sink)?;
