@@ -1,5 +1,5 @@
 //! Callers of `jj_files`.
-ghost use Rattle.std.specs.Prelude.{◌≡◌, false, IfOk, string_bytes};
+ghost use Rattle.std.specs.Prelude.{◌≡◌, ◌⊎◌, false, IfErr, IfOk, string_bytes};
 ghost use Rattle.jj_files.specs.Directories.{CreatesOrReuses};
 ghost use Rattle.jj_files.specs.PathComponents.{IsNormalized, IsRelativeTo};
 ghost use Rattle.jj_files.specs.Streams.{CopiesAll, streams};
@@ -12,9 +12,10 @@ use std::io;
 pub fn copy<R: Source, W: Sink>(reader: &mut R, writer: &mut W) -> io::Result<usize>
     requires reader_works { R.has_failed reader.old ≡ false }
     requires writer_works { W.has_failed writer.old ≡ false }
-    ensures { IfOk result (CopiesAll
+    ensures all { IfOk result (CopiesAll
         (streams (R.remaining reader.old) (W.contents writer.old))
         (streams (R.remaining reader.new) (W.contents writer.new))) }
+    ensures error { IfErr result (λ e. R.may_fail e ⊎ W.may_fail e) }
 {
     file_util::copy(reader, writer)
 }
