@@ -1,12 +1,15 @@
 //! Callers of `jj_log`.
-ghost use Rattle.std.specs.Prelude.{◌≡◌, ◌<◌, ◌⊎◌, false, IfErr, IfOk, Result};
-ghost use Rattle.jj_files.specs.Streams.{streams};
+ghost use Rattle.std.specs.Io.KnownBytes.{Appends};
+ghost use Rattle.std.specs.Prelude.{◌≡◌, ◌<◌, ◌⊎◌, ℕ, List, false, IfErr, IfOk, OnOk, Result};
+ghost use Rattle.jj_files.specs.Streams.{AppendsPrefixOf, RecordsFailure, streams};
 ghost use Rattle.jj_filter.specs.Reports.{Reports};
 ghost use Rattle.jj_filter.specs.Runs.{ClosesBy, EndsBy, IsInputFailure, is_read_failure, is_write_failure};
 ghost use Rattle.jj_filter.specs.declared.failure.Failure.{Failure};
 ghost use Rattle.jj_log.specs.Columns.{IsRow, widest_line};
+ghost use Rattle.jj_log.specs.Drawing.{AreStyled};
 ghost use Rattle.jj_log.specs.Edges.{AreEdges, AreTargets};
 ghost use Rattle.jj_log.specs.InputLines.{AreCommitsOf, IsParseFault};
+ghost use Rattle.jj_log.specs.Labels.{label_of};
 ghost use Rattle.jj_log.specs.Reports.{report_text, status_of};
 ghost use Rattle.jj_log.specs.Runs.{DrawingsOf, IsInputFault};
 ghost use Rattle.contracts_logs.specs.Defaults.{default_options};
@@ -18,9 +21,11 @@ use jj_filter::failure::Failure;
 use jj_log::commits::{Commit, NumberedCommit};
 use jj_log::fault::{Fault, LogError};
 use jj_log::layout::{self, Row};
-use jj_log::{input, program, targets};
+use jj_log::style::Style;
+use jj_log::{input, program, targets, writing};
 use jj_walks::graph::GraphEdge;
 use std::alloc::{AllocError, Global};
+use std::io;
 
 /// `lay_out`.
 pub fn lay_out(
@@ -62,6 +67,23 @@ pub fn parse_commits(
     ensures error { IfErr result (IsInputFailure (IsParseFault input.now)) }
 {
     input::parse_commits(alloc, input)
+}
+
+/// `write_rows`.
+pub fn write_rows<W: Sink>(
+    alloc: Global,
+    writer: &mut W,
+    style: Style,
+    rows: &[Row],
+    commits: &[Commit],
+) -> io::Result<()>
+    ensures drawing { (drawing : List ℕ) × AreStyled style (label_of commits.now) rows.now drawing
+        × OnOk result (Appends (W.contents writer.old) (W.contents writer.new) drawing)
+        × AppendsPrefixOf (W.contents writer.old) (W.contents writer.new) drawing }
+    ensures failure { RecordsFailure (W.has_failed writer.old) (W.has_failed writer.new) result }
+    ensures error { IfErr result W.may_fail }
+{
+    writing::write_rows(alloc, writer, style, rows, commits)
 }
 
 /// `start`.

@@ -40,7 +40,9 @@ pub trait Filter {
 // Bytes per read.
 const READ_BUFFER: usize = 65536;
 
-fn read_input<F: Drop, R: Source>(alloc: Global, reader: &mut R) -> Result<Vec<u8>, Failure<F>>
+/// Reads the source to its end. Fails with `ReadInput` if a read fails, and with `Memory` if memory
+/// runs out.
+pub fn read_input<F: Drop, R: Source>(alloc: Global, reader: &mut R) -> Result<Vec<u8>, Failure<F>>
     ensures all { IfOk result (λ input. Consumes (R.remaining reader.old)
         (R.remaining reader.new) input.items) }
     ensures end { OnOk result (IsAtEnd (R.remaining reader.new)) }

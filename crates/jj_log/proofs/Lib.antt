@@ -10,6 +10,8 @@ mod GroupedRuns
 mod VisibleItems
 mod Settling
 mod DrawnRows
+mod BufferedOutput
+mod WrittenRows
 mod WideRows
 mod Interning
 mod ReadLines

@@ -1,5 +1,5 @@
 -- Faults of inputs from errors of their logs, and the options that a command line asks for.
-use Rattle.std.proofs.Common.{◌≡◌, ◌∙◌, ◌∷◌, [], ℕ, List, String, Global, Option, None, Some, Result, Ok, inl, inr, get_or, map, ap, subst, sym}
+use Rattle.std.proofs.Common.{◌≡◌, ◌∙◌, ℕ, List, String, Global, Option, None, Some, Ok, inl, inr, get_or, map, ap, subst, sym}
 use Rattle.std.specs.Prelude.{string_bytes}
 use Rattle.jj_log.specs.CommandLines.{Asks, IsMost}
 use Rattle.jj_log.specs.InputLines.{AreCommitsOf}
@@ -7,7 +7,6 @@ use Rattle.jj_log.specs.Labels.{name_of}
 use Rattle.jj_log.specs.LogDrawings.{IsLogError}
 use Rattle.jj_log.specs.Reports.{IsFaultAt}
 use Rattle.jj_log.specs.Runs.{IsLinesFault}
-use Rattle.jj_log.specs.declared.arguments.CommandLine.{CommandLine}
 use Rattle.jj_log.specs.declared.arguments.LogOptions.{LogOptions}
 use Rattle.jj_log.specs.declared.commits.Commit.{Commit}
 use Rattle.jj_log.specs.declared.fault.Fault.{Fault}

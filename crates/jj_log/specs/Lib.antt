@@ -14,5 +14,6 @@ pub mod LogDrawings
 pub mod InputLines
 pub mod Fields
 pub mod CommandLines
+pub mod BufferedOutput
 pub mod Runs
 pub mod Reports

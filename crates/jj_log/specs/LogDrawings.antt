@@ -1,5 +1,5 @@
 -- The drawing of the log of commits that are known by names, and its errors.
--- Cited by contracts of public items: IsDrawing, IsLogError, IsStyledDrawing.
+-- Cited by contracts of public items: AreLogRows, IsDrawing, IsLogError, IsStyledDrawing.
 use Rattle.std.specs.Prelude.{ℕ, List, [], map}
 use Rattle.jj_log.specs.Columns.{AreRows, node_of_row}
 use Rattle.jj_log.specs.Drawing.{AreStyled}
@@ -15,16 +15,20 @@ use Rattle.jj_log.specs.declared.layout.Row.{Row}
 use Rattle.jj_log.specs.declared.style.Style.{Style}
 use Rattle.jj_log.specs.declared.style.Style.TheVariants.{Ascii}
 
--- the commits were numbered by their names, their log, with branches together, was laid out in
--- rows of at most `most` columns, and these were drawn with the labels of the commits
-pub record IsStyledDrawing (style : Style) (most : ℕ) (commits : List Commit) (drawing : List ℕ)
-    : Type 0 where
+-- the rows, of at most `most` columns, of the log of the commits, which were numbered by their
+-- names, with branches together
+pub record AreLogRows (most : ℕ) (commits : List Commit) (rows : List Row) : Type 0 where
   pub numbered : List NumberedCommit
   pub are_numbered : AreNumbered commits numbered
-  pub rows : List Row
   pub log : IsGroupedLog numbered (map node_of_row rows)
   pub last : List ℕ
   pub columns : AreRows most [] rows last
+
+-- the rows of the log of the commits were drawn with the labels of the commits
+pub record IsStyledDrawing (style : Style) (most : ℕ) (commits : List Commit) (drawing : List ℕ)
+    : Type 0 where
+  pub rows : List Row
+  pub are_rows : AreLogRows most commits rows
   pub drawn : AreStyled style (label_of commits) rows drawing
 
 -- that in ASCII characters

@@ -5,7 +5,7 @@ use Rattle.std.specs.Str.{IsUtf8}
 use Rattle.jj_log.specs.Fields.{IsFieldsFault, lines_of_fields}
 use Rattle.jj_log.specs.InputLines.{AreCommitsOf, DrawsInput, IsParseFault}
 use Rattle.jj_log.specs.Labels.{name_of}
-use Rattle.jj_log.specs.LogDrawings.{IsLogError}
+use Rattle.jj_log.specs.LogDrawings.{AreLogRows, IsLogError}
 use Rattle.jj_log.specs.Reports.{IsFaultAt}
 use Rattle.jj_log.specs.declared.arguments.LogOptions.{LogOptions}
 use Rattle.jj_log.specs.declared.commits.Commit.{Commit}
@@ -14,6 +14,7 @@ use Rattle.jj_log.specs.declared.fault.Fault.TheVariants.{NotUtf8}
 use Rattle.jj_log.specs.declared.fault.LineFault.{LineFault}
 use Rattle.jj_log.specs.declared.fault.LineFault.TheVariants.{RepeatedName, Cycle, TooWide}
 use Rattle.jj_log.specs.declared.fields.Place.TheVariants.{Start}
+use Rattle.jj_log.specs.declared.log.LogLayout.{LogLayout}
 use Rattle.jj_log.specs.declared.fault.LogError.{LogError}
 use Rattle.jj_log.specs.declared.fault.LogError.TheVariants.{RepeatedName as repeated_name, Cycle as cycle, TooWide as too_wide}
 
@@ -42,6 +43,17 @@ abbrev pub IsInputFault : LogOptions → List ℕ → Fault → Type 0
 IsInputFault options input fault = ((options.nul ≡ true) × IsFieldsFault input fault)
     ⊎ ((lines : List ℕ) × AreLinesGiven options.nul input lines
     × IsLinesFault options.max_columns lines fault)
+
+-- the layout has the commits of an input of lines and the rows of their log
+abbrev pub IsLayoutOfLines : (most : ℕ) → List ℕ → LogLayout → Type 0
+IsLayoutOfLines most input layout = (numbers : List ℕ)
+    × AreCommitsOf input layout.commits.items numbers
+    × AreLogRows most layout.commits.items layout.rows.items
+
+-- those of an input that is read with these options
+abbrev pub IsLayoutOf : LogOptions → List ℕ → LogLayout → Type 0
+IsLayoutOf options input layout = (lines : List ℕ) × AreLinesGiven options.nul input lines
+    × IsLayoutOfLines options.max_columns lines layout
 
 -- the drawing of the commits of an input with these options
 abbrev pub DrawsGiven : LogOptions → List ℕ → List ℕ → Type 0

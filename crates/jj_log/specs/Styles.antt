@@ -1,6 +1,6 @@
 -- The characters of a drawing.
 -- Cited by contracts of public items: IsReadBack, styled.
-use Rattle.std.specs.Prelude.{◌≡◌, ℕ, ◌==◌, ◌||◌, Bool, true, List, [], ◌∷◌, ◌++◌, All, if◌then◌else◌, flat_map}
+use Rattle.std.specs.Prelude.{◌≡◌, ℕ, ◌==◌, List, [], ◌∷◌, All, if◌then◌else◌, flat_map}
 use Rattle.jj_log.specs.declared.style.Style.{Style}
 use Rattle.jj_log.specs.declared.style.Style.TheVariants.{Ascii, Unicode}
 

@@ -2,8 +2,9 @@
 ghost use Rattle.std.specs.Prelude.{◌≡◌, ◌++◌, ℕ, List, OnOk, string_bytes};
 ghost use Rattle.jj_log.specs.Drawing.{Appends, StartsWithLine, line_of_row, node_line, styled_line_of_row};
 
-use crate::glyphs::{edge_glyph, end_glyph, fork_glyph, node_glyph};
-use crate::layout::{ColumnEnd, Row};
+use crate::glyphs::node_glyph;
+use crate::layout::Row;
+use crate::lines::{count_below, glyph_below, line_below};
 use crate::style::{Style, push_glyphs};
 use std::alloc::AllocError;
 
@@ -27,78 +28,30 @@ fn push_node_line(
     Ok(())
 }
 
-// The line in which a column goes to the right of this one.
-fn push_fork_line(
+// The line at an index below that of the node, if there is one.
+fn push_line_below(
     drawing: &mut String,
     style: Style,
-    width: usize,
-    column: usize,
-) -> Result<(), AllocError>
-    ensures { OnOk result (Appends (string_bytes drawing.old) (string_bytes drawing.new)) }
-{
-    for index in 0..width {
-        push_glyphs(drawing, style, fork_glyph(column, index))?;
-    }
-    drawing.push('\n')?;
-    Ok(())
-}
-
-// The line of the types of edges.
-fn push_edge_line(
-    drawing: &mut String,
-    style: Style,
-    width: usize,
     row: &Row,
+    index: usize,
 ) -> Result<(), AllocError>
     ensures { OnOk result (Appends (string_bytes drawing.old) (string_bytes drawing.new)) }
 {
-    for index in 0..width {
-        push_glyphs(drawing, style, edge_glyph(row.column, &row.edges, index))?;
-    }
-    drawing.push('\n')?;
-    Ok(())
-}
-
-// The line in which a column ends: none if it is the last one and joins no other.
-fn push_end_line(
-    drawing: &mut String,
-    style: Style,
-    width: usize,
-    end: ColumnEnd,
-) -> Result<(), AllocError>
-    ensures { OnOk result (Appends (string_bytes drawing.old) (string_bytes drawing.new)) }
-{
-    let last = width.saturating_sub(1);
-    if end == ColumnEnd::Ends(last) {
+    let Some((line, width)) = line_below(row, index) else {
         return Ok(());
-    }
-    for index in 0..last {
-        push_glyphs(drawing, style, end_glyph(end, index))?;
+    };
+    for column in 0..width {
+        push_glyphs(drawing, style, glyph_below(row, line, column))?;
     }
     drawing.push('\n')?;
     Ok(())
 }
 
-// The lines below that of the node.
 fn push_lines_below(drawing: &mut String, style: Style, row: &Row) -> Result<(), AllocError>
     ensures { OnOk result (Appends (string_bytes drawing.old) (string_bytes drawing.new)) }
 {
-    for fork in 1..row.edges.len() {
-        let others = fork - 1;
-        push_fork_line(
-            drawing,
-            style,
-            row.width.saturating_add(others),
-            row.column.saturating_add(others),
-        )?;
-    }
-    let mut width = row.width.saturating_add(row.edges.len().saturating_sub(1));
-    if row.edges.iter().any(|edge| !edge.is_direct()) {
-        push_edge_line(drawing, style, width, row)?;
-    }
-    for end in &row.ends {
-        push_end_line(drawing, style, width, *end)?;
-        width = width.saturating_sub(1);
+    for index in 0..count_below(row) {
+        push_line_below(drawing, style, row, index)?;
     }
     Ok(())
 }

@@ -3,7 +3,7 @@ ghost use Rattle.std.specs.Prelude.{◌≡◌, [], ℕ, List, map, IfOk, IfErr, 
 ghost use Rattle.jj_log.specs.Columns.{AreRows, node_of_row};
 ghost use Rattle.jj_log.specs.Drawing.{AreDrawn, AreStyled};
 ghost use Rattle.jj_log.specs.Failures.{IsRowsError};
-ghost use Rattle.jj_log.specs.LogDrawings.{IsDrawing, IsLogError, IsStyledDrawing};
+ghost use Rattle.jj_log.specs.LogDrawings.{AreLogRows, IsDrawing, IsLogError, IsStyledDrawing};
 ghost use Rattle.jj_log.specs.Logs.{IsGroupedLog};
 ghost use Rattle.jj_log.specs.Labels.{label_of};
 ghost use Rattle.jj_log.specs.declared.layout.Row.{Row};
@@ -16,6 +16,13 @@ use crate::layout::{Row, rows};
 use crate::numbering::number_commits;
 use crate::style::Style;
 use std::alloc::{AllocError, Global};
+
+// Commits and the rows of their log, whose nodes are indices of the list.
+#[derive(Drop)]
+pub(crate) struct LogLayout {
+    pub(crate) commits: Vec<Commit>,
+    pub(crate) rows: Vec<Row>,
+}
 
 /// Returns the log of these commits in rows: each visible commit once, with its edges, and before
 /// its ancestors. Branches are together: a commit is followed by the last target whose children all
@@ -40,7 +47,7 @@ pub fn log_rows(
     rows(alloc, nodes, max_columns)
 }
 
-fn label_at(commits: &[Commit], number: usize) -> &str
+pub(crate) fn label_at(commits: &[Commit], number: usize) -> &str
     ensures { result.now ≡ label_of commits.now number }
 {
     match commits.get(number) {
@@ -77,6 +84,20 @@ pub fn draw_rows(alloc: Global, rows: &[Row], commits: &[Commit]) -> Result<Stri
     draw_styled_rows(alloc, rows, commits, Style::Ascii)
 }
 
+/// Returns the rows of the log of these commits, whose nodes are indices of the list. Fails with
+/// `RepeatedName` of an earlier commit if two commits have one name, and as `log_rows` does.
+pub fn rows_of_log(
+    alloc: Global,
+    commits: &[Commit],
+    max_columns: usize,
+) -> Result<Vec<Row>, LogError>
+    ensures rows { IfOk result (λ rows. AreLogRows max_columns commits.now rows.items) }
+    ensures error { IfErr result (IsLogError max_columns commits.now) }
+{
+    let numbered = number_commits(alloc, commits)?;
+    log_rows(alloc, &numbered, max_columns)
+}
+
 /// Draws the log of these commits in a style. Fails with `RepeatedName` of an earlier commit if two
 /// commits have one name, with `Cycle` of a commit on a cycle of parents, with `TooWide` of the
 /// first commit whose row needs more than `max_columns` columns, and with `Memory` if memory runs
@@ -91,8 +112,7 @@ pub fn draw_styled_log(
         IsStyledDrawing style max_columns commits.now (string_bytes drawing)) }
     ensures error { IfErr result (IsLogError max_columns commits.now) }
 {
-    let numbered = number_commits(alloc, commits)?;
-    let rows = log_rows(alloc, &numbered, max_columns)?;
+    let rows = rows_of_log(alloc, commits, max_columns)?;
     Ok(draw_styled_rows(alloc, &rows, commits, style)?)
 }
 

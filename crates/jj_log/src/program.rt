@@ -1,15 +1,15 @@
 //! Entry points of the program: the log as a filter, and the command line.
-ghost use Rattle.std.specs.Prelude.{◌≡◌, ◌⊎◌, ℕ, List, Result, IfOk, IfErr, MatchBool, false, get_or, string_bytes};
+ghost use Rattle.std.specs.Prelude.{◌≡◌, ◌⊎◌, ℕ, List, Result, IfOk, IfErr, MatchBool, false, get_or};
 ghost use Rattle.jj_files.specs.Streams.{streams};
 ghost use Rattle.jj_filter.specs.Reports.{Reports};
 ghost use Rattle.jj_filter.specs.Runs.{ClosesBy, EndsBy, IsInputFailure, is_read_failure, is_write_failure};
 ghost use Rattle.jj_filter.specs.declared.failure.Failure.{Failure};
-ghost use Rattle.jj_log.specs.InputLines.{AreCommitsOf, DrawsInput};
+ghost use Rattle.jj_log.specs.InputLines.{AreCommitsOf};
 ghost use Rattle.jj_log.specs.Labels.{name_of};
 ghost use Rattle.jj_log.specs.LogDrawings.{IsLogError};
 ghost use Rattle.jj_log.specs.Reports.{IsFaultAt, report_text, status_of};
 ghost use Rattle.jj_log.specs.CommandLines.{Asks};
-ghost use Rattle.jj_log.specs.Runs.{DrawsGiven, DrawingsOf, IsInputFault, IsLinesFault};
+ghost use Rattle.jj_log.specs.Runs.{DrawingsOf, IsInputFault, IsLayoutOf, IsLayoutOfLines, IsLinesFault};
 ghost use Rattle.jj_log.specs.declared.arguments.LogOptions.{LogOptions as LogOptionsValue};
 ghost use Rattle.jj_log.specs.declared.fault.Fault.{Fault};
 
@@ -18,16 +18,16 @@ use crate::commits::Commit;
 use crate::fault::{Fault, LineFault, LogError, fault_at};
 use crate::fields::lines_of_fields;
 use crate::input::parse_commits;
-use crate::log::draw_styled_log;
-use crate::style::Style;
+use crate::log::{LogLayout, rows_of_log};
+use crate::writing::write_rows;
 use jj_excerpts::excerpt;
 use jj_files::file_util::{Sink, Source};
 use jj_filter::arguments::VERSION;
 use jj_filter::failure::Failure;
-use jj_filter::filter;
-use jj_filter::filter::Filter;
-use jj_filter::report::write_parts;
+use jj_filter::filter::read_input;
+use jj_filter::report::{write_parts, write_report};
 use std::alloc::Global;
+use std::io::ErrorKind;
 
 fn line_at(lines: &[usize], index: usize) -> usize
     ensures { result ≡ get_or lines.now index 0 }
@@ -72,54 +72,68 @@ fn failure_of(alloc: Global, error: LogError, commits: &[Commit], lines: &[usize
     }
 }
 
-// Returns the drawing of the commits of the lines of the input.
-fn drawn_lines(
+// Returns the layout of the commits of the lines of the input.
+fn layout_of_lines(
     alloc: Global,
     input: &[u8],
     max_columns: usize,
-    style: Style,
-) -> Result<String, Failure<Fault>>
-    ensures draws { IfOk result (λ drawing.
-        DrawsInput style max_columns input.now (string_bytes drawing)) }
+) -> Result<LogLayout, Failure<Fault>>
+    ensures layout { IfOk result (IsLayoutOfLines max_columns input.now) }
     ensures error { IfErr result (IsInputFailure (IsLinesFault max_columns input.now)) }
 {
     let Ok(input) = str::from_utf8(input) else {
         return Err(Failure::Input(Fault::NotUtf8));
     };
     let (commits, lines) = parse_commits(alloc, input)?;
-    match draw_styled_log(alloc, &commits, max_columns, style) {
-        Ok(drawing) => Ok(drawing),
+    match rows_of_log(alloc, &commits, max_columns) {
+        Ok(rows) => Ok(LogLayout { commits, rows }),
         Err(error) => Err(failure_of(alloc, error, &commits, &lines)),
     }
 }
 
-// Returns the drawing of the commits of the input.
-fn output(alloc: Global, input: &[u8], options: LogOptions) -> Result<String, Failure<Fault>>
-    ensures draws { IfOk result (λ drawing.
-        DrawsGiven options input.now (string_bytes drawing)) }
+// Returns the layout of the commits of the input.
+fn layout_of(alloc: Global, input: &[u8], options: LogOptions) -> Result<LogLayout, Failure<Fault>>
+    ensures layout { IfOk result (IsLayoutOf options input.now) }
     ensures error { IfErr result (IsInputFailure (IsInputFault options input.now)) }
 {
     if options.nul {
         let lines = lines_of_fields(alloc, input)?;
-        drawn_lines(alloc, &lines, options.max_columns, options.style)
+        layout_of_lines(alloc, &lines, options.max_columns)
     } else {
-        drawn_lines(alloc, input, options.max_columns, options.style)
+        layout_of_lines(alloc, input, options.max_columns)
     }
 }
 
-impl Filter for LogOptions {
-    ghost use Rattle.jj_log.specs.Runs.{DrawsGiven, IsInputFault};
-
-    type Outcome = ();
-
-    type Fault = Fault;
-
-    ghost yields = { λ options input drawing _. DrawsGiven options input drawing };
-
-    ghost fails = { λ options input fault. IsInputFault options input fault };
-
-    fn output(&self, alloc: Global, input: &[u8]) -> Result<(Vec<u8>, ()), Failure<Fault>> {
-        Ok((output(alloc, input, *self)?.into_bytes(), ()))
+/// Reads the commits of the source, lays them all out, and then writes their drawing row by row.
+/// Fails as `jj_filter::filter::run` does.
+pub fn run<R: Source, W: Sink>(
+    alloc: Global,
+    options: LogOptions,
+    reader: &mut R,
+    writer: &mut W,
+) -> Result<(), Failure<Fault>>
+    // The drawing of the commits of the whole input was written; or nothing was written, and a read
+    // failed, memory ran out or the input has the fault; or a write failed, after a prefix of the
+    // drawing.
+    ensures ends { EndsBy (DrawingsOf options) (IsInputFault options)
+        (streams (R.remaining reader.old) (W.contents writer.old))
+        (streams (R.remaining reader.new) (W.contents writer.new)) result }
+    // The source has failed exactly if the failure says so.
+    ensures read_failure { R.has_failed reader.old ≡ false
+        → R.has_failed reader.new ≡ is_read_failure result }
+    // The sink has failed exactly if the failure says so.
+    ensures write_failure { W.has_failed writer.old ≡ false
+        → W.has_failed writer.new ≡ is_write_failure result }
+    // A failed write is one to a closed output exactly if the sink's error is a broken pipe.
+    ensures closed { ClosesBy W.may_fail result }
+{
+    let input = read_input(alloc, reader)?;
+    let layout = layout_of(alloc, &input, options)?;
+    match write_rows(alloc, writer, options.style, &layout.rows, &layout.commits) {
+        Ok(()) => Ok(()),
+        Err(error) => Err(Failure::WriteOutput {
+            is_closed: error.kind() == ErrorKind::BrokenPipe,
+        }),
     }
 }
 
@@ -147,6 +161,31 @@ TAB, and its label. A commit without the second TAB is not drawn.
 Status: 0, 1 after a fault, 2 after a wrong option.
 
 ";
+
+// Runs with these options, reports how the run ended, and returns the exit status.
+fn draw<R: Source, W: Sink, E: Sink>(
+    alloc: Global,
+    options: LogOptions,
+    reader: &mut R,
+    writer: &mut W,
+    errors: &mut E,
+) -> u8
+    ensures { (ended : Result (Unit {0}) (Failure Fault))
+        × EndsBy (DrawingsOf options) (IsInputFault options)
+        (streams (R.remaining reader.old) (W.contents writer.old))
+        (streams (R.remaining reader.new) (W.contents writer.new)) ended
+        × (R.has_failed reader.old ≡ false → R.has_failed reader.new ≡ is_read_failure ended)
+        × (W.has_failed writer.old ≡ false → W.has_failed writer.new ≡ is_write_failure ended)
+        × ClosesBy W.may_fail ended
+        × (result ≡ status_of ended)
+        × Reports (E.contents errors.old) (E.contents errors.new) (E.has_failed errors.new)
+        (report_text ended) }
+{
+    match run(alloc, options, reader, writer) {
+        Ok(()) => write_report(errors, NAME, &()),
+        Err(failure) => write_report(errors, NAME, &failure),
+    }
+}
 
 /// Runs the program with these arguments (without the program's name), and returns its exit status.
 ///
@@ -179,7 +218,7 @@ pub fn start<R: Source, W: Sink, E: Sink>(
         × ((result ≡ 0) ⊎ (result ≡ 2)) }
 {
     match options_of(words) {
-        Some(options) => filter::start(alloc, NAME, &options, reader, writer, errors),
+        Some(options) => draw(alloc, options, reader, writer, errors),
         None => perform(alloc, words, writer, errors),
     }
 }

@@ -14,7 +14,7 @@ pub enum Style {
 }
 
 // The Unicode character in place of an ASCII character of a drawing.
-fn unicode_glyph(byte: u8) -> &'static str
+pub(crate) fn unicode_glyph(byte: u8) -> &'static str
     ensures { result.now ≡ unicode_glyph byte }
 {
     match byte {

@@ -1,0 +1,7 @@
+-- The string grows.
+use Rattle.std.specs.Prelude.{string_bytes}
+use Rattle.jj_log.specs.Drawing.{Appends}
+use Rattle.jj_log.proofs.drawing.push_line_below.Given as goal
+
+abbrev pub invariant-loop-column : goal.invariant-loop-column
+invariant-loop-column l = Appends (string_bytes l.initial.drawing) (string_bytes l.drawing)
