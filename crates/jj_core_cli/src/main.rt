@@ -7,6 +7,7 @@ use jj_filter::arguments::{VERSION, arguments};
 use jj_filter::report::write_report;
 use jj_program::program;
 use jj_program::program::Command;
+use jj_progress::read_progress::ReadProgress;
 use std::io::IsTerminal;
 use std::process::ExitCode;
 
@@ -77,12 +78,19 @@ fn main(rt: HostRuntime) -> ExitCode {
         return status;
     }
     let stdin = rt.stdin();
+    let is_typed = stdin.is_terminal();
     if !is_command(&words) {
         report_wrong_word(&rt, &words);
-    } else if stdin.is_terminal() {
+    } else if is_typed {
         let _ = eprintln!(rt; "jj-core: reads lines of TAB-separated fields, up to Ctrl-D");
     }
-    let mut reader = Watched::new(StdIo(stdin));
+    let mut reader = ReadProgress::new(
+        Watched::new(StdIo(stdin)),
+        &rt,
+        Watched::new(StdIo(rt.stderr())),
+        program::NAME,
+        !is_typed && rt.stderr().is_terminal(),
+    );
     let mut writer = Watched::new(StdIo(rt.stdout()));
     let status = program::start(rt.alloc(), &words, &mut reader, &mut writer, &mut errors);
     ExitCode::from(status)

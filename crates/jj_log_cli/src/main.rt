@@ -5,6 +5,7 @@ use jj_files::file_util::{StdIo, Watched};
 use jj_filter::arguments::arguments;
 use jj_filter::report::write_report;
 use jj_log::program;
+use jj_progress::read_progress::ReadProgress;
 use std::io::IsTerminal;
 use std::process::ExitCode;
 
@@ -15,10 +16,17 @@ fn main(rt: HostRuntime) -> ExitCode {
         Err(error) => return ExitCode::from(write_report(&mut errors, program::NAME, &error)),
     };
     let stdin = rt.stdin();
-    if program::reads(&words) && stdin.is_terminal() {
+    let is_typed = stdin.is_terminal();
+    if program::reads(&words) && is_typed {
         let _ = eprintln!(rt; "jj-log: reads commits, a line each, up to Ctrl-D");
     }
-    let mut reader = Watched::new(StdIo(stdin));
+    let mut reader = ReadProgress::new(
+        Watched::new(StdIo(stdin)),
+        &rt,
+        Watched::new(StdIo(rt.stderr())),
+        program::NAME,
+        !is_typed && rt.stderr().is_terminal(),
+    );
     let mut writer = Watched::new(StdIo(rt.stdout()));
     let status = program::start(rt.alloc(), &words, &mut reader, &mut writer, &mut errors);
     ExitCode::from(status)

@@ -1,0 +1,4 @@
+//! Progress of a long read on standard error.
+#![tactic(auto)]
+
+pub mod read_progress;
