@@ -1,5 +1,6 @@
 pub mod Ends
 pub mod Lines
+pub mod WholeFields
 pub mod Ranges
 pub mod Refined
 pub mod Shared

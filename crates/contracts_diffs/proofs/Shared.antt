@@ -7,9 +7,8 @@ use Rattle.std.specs.List.{flat_map}
 use Rattle.jj_diff.specs.declared.diff.hunks.DiffHunk.{DiffHunk}
 use Rattle.jj_diff.specs.declared.diff.hunks.DiffHunkKind.{DiffHunkKind}
 use Rattle.jj_diff.specs.declared.diff.hunks.DiffHunkKind.TheVariants.{Matching, Different}
-use Rattle.jj_diff.specs.declared.diff.tokens.Tokenizer.TheVariants.{Lines}
 use Rattle.jj_diff.specs.Inputs.{side}
-use Rattle.jj_diff.specs.Tokens.{IsCut}
+use Rattle.jj_diff.specs.Tokens.{is_line_end, IsCut}
 use Rattle.jj_diff.specs.Hunks.{row_of, Alternate, AreTrimmed, IsDiff}
 use Rattle.jj_diff.specs.Anchors.{StandsOnce, token_offsets}
 use Rattle.contracts_diffs.specs.Lines.{HasLine, HasSmallChanges, KeepsLines, LineCrosses, LineMatches, PartsHave, part_of}
@@ -28,28 +27,28 @@ module _ (line : List ℕ) where
   abbrev Once : List (List ℕ) → Type 0
   Once ls = (k : ℕ) × IsAt ls k × ((j : ℕ) → IsAt ls j → j ≡ k)
 
-  once_of_text : (text : List ℕ) → StandsOnce Lines text line → Once (lines_of text)
+  once_of_text : (text : List ℕ) → StandsOnce is_line_end text line → Once (lines_of text)
   once_of_text text once =
-      let n : length (lines_of text) ≡ length (token_offsets Lines text) - 1 = length-pieces text (token_offsets Lines text) in (
+      let n : length (lines_of text) ≡ length (token_offsets is_line_end text) - 1 = length-pieces text (token_offsets is_line_end text) in (
         once.0,
-        (omega (arith, n, once.1.0), piece_at text (token_offsets Lines text) once.0 once.1.0 ∙ once.1.1),
+        (omega (arith, n, once.1.0), piece_at text (token_offsets is_line_end text) once.0 once.1.0 ∙ once.1.1),
         λ j at.
-            let lt : j + 1 < length (token_offsets Lines text) = omega (arith, n, at.0) in
-            once.2 j (lt, sym (piece_at text (token_offsets Lines text) j lt) ∙ at.1),
+            let lt : j + 1 < length (token_offsets is_line_end text) = omega (arith, n, at.0) in
+            once.2 j (lt, sym (piece_at text (token_offsets is_line_end text) j lt) ∙ at.1),
       )
 
   has_of_lines : (text : List ℕ) → Has (lines_of text) → HasLine line text
   has_of_lines text has =
-      let lt : has.0 + 1 < length (token_offsets Lines text) = omega (arith, length-pieces text (token_offsets Lines text), has.1.0) in
-      (has.0, (lt, sym (piece_at text (token_offsets Lines text) has.0 lt) ∙ has.1.1))
+      let lt : has.0 + 1 < length (token_offsets is_line_end text) = omega (arith, length-pieces text (token_offsets is_line_end text), has.1.0) in
+      (has.0, (lt, sym (piece_at text (token_offsets is_line_end text) has.0 lt) ∙ has.1.1))
 
-  once_of_lines : (text : List ℕ) → Once (lines_of text) → StandsOnce Lines text line
+  once_of_lines : (text : List ℕ) → Once (lines_of text) → StandsOnce is_line_end text line
   once_of_lines text once =
-      let n : length (lines_of text) ≡ length (token_offsets Lines text) - 1 = length-pieces text (token_offsets Lines text) in
-      let lt : once.0 + 1 < length (token_offsets Lines text) = omega (arith, n, once.1.0) in (
+      let n : length (lines_of text) ≡ length (token_offsets is_line_end text) - 1 = length-pieces text (token_offsets is_line_end text) in
+      let lt : once.0 + 1 < length (token_offsets is_line_end text) = omega (arith, n, once.1.0) in (
         once.0,
-        (lt, sym (piece_at text (token_offsets Lines text) once.0 lt) ∙ once.1.1),
-        λ j at. once.2 j (omega (arith, n, at.0), piece_at text (token_offsets Lines text) j at.0 ∙ at.1),
+        (lt, sym (piece_at text (token_offsets is_line_end text) once.0 lt) ∙ once.1.1),
+        λ j at. once.2 j (omega (arith, n, at.0), piece_at text (token_offsets is_line_end text) j at.0 ∙ at.1),
       )
 
   has_first : (xs ys : List (List ℕ)) → Has xs → Has (xs ++ ys)
@@ -207,12 +206,12 @@ module _ (line : List ℕ) where
 
 -- ---- a comparison of two versions
 
-module _ (l r : List ℕ) (hs : List DiffHunk) (diff : IsDiff Lines (l ∷ r ∷ []) hs) (trimmed : AreTrimmed Lines hs) where
+module _ (l r : List ℕ) (hs : List DiffHunk) (diff : IsDiff is_line_end (l ∷ r ∷ []) hs) (trimmed : AreTrimmed is_line_end hs) where
   lines_of_side : (i : ℕ) (text : List ℕ) → i < 2 → get_or (l ∷ r ∷ []) i [] ≡ text → lines_of text ≡ flat_map (part_lines i) hs
   lines_of_side i text lt e =
       let side_is : side i (map row_of hs) ≡ text = diff.sides i lt ∙ e in
       ap lines_of (sym side_is)
-      ∙ lines_of_hunks i hs (λ k le. subst (λ xs. IsCut Lines xs (length (side i (map row_of (take k hs))))) (e ∙ sym side_is) (diff.cuts k i le lt))
+      ∙ lines_of_hunks i hs (λ k le. subst (λ xs. IsCut is_line_end xs (length (side i (map row_of (take k hs))))) (e ∙ sym side_is) (diff.cuts k i le lt))
 
   fits : HasSmallChanges hs → (line : List ℕ) → All (Fits line) hs
   fits small line k d lt =
@@ -220,12 +219,12 @@ module _ (l r : List ℕ) (hs : List DiffHunk) (diff : IsDiff Lines (l ∷ r ∷
       let n : length (row_of h) ≡ 2 = (diff.hunks k d lt).len in (
         λ m. sym ((diff.hunks k d lt).equal m 1 (omega (arith, n))),
         λ e left right. (trimmed k d lt e).once
-            (λ i il. both (λ j. length (token_offsets Lines (part_of j h)) ≤ 65)
+            (λ i il. both (λ j. length (token_offsets is_line_end (part_of j h)) ≤ 65)
             (omega (arith, (small k d lt e).0)) (omega (arith, (small k d lt e).1)) i (omega (arith, n, il)))
             line
             (record {
               some = omega (arith, n);
-              once = λ i il. both (λ j. StandsOnce Lines (part_of j h) line)
+              once = λ i il. both (λ j. StandsOnce is_line_end (part_of j h) line)
                   (once_of_lines line (part_of 0 h) left) (once_of_lines line (part_of 1 h) right) i (omega (arith, n, il));
             }),
       )

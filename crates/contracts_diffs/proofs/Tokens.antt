@@ -5,9 +5,8 @@ use Rattle.std.proofs.lemmas.List.{get_or_append_left, get_or-append-add, drop-d
 use Rattle.std.proofs.lemmas.List.Elements.{filter-append}
 use Rattle.std.specs.List.{range_with_len, slice_range, flat_map}
 use Rattle.jj_diff.specs.declared.diff.hunks.DiffHunk.{DiffHunk}
-use Rattle.jj_diff.specs.declared.diff.tokens.Tokenizer.TheVariants.{Lines}
 use Rattle.jj_diff.specs.Inputs.{side}
-use Rattle.jj_diff.specs.Tokens.{IsCut, is_line_end}
+use Rattle.jj_diff.specs.Tokens.{is_line_end, IsCut}
 use Rattle.jj_diff.specs.Anchors.{token_offsets, token_at}
 use Rattle.jj_diff.specs.Hunks.{row_of}
 use Rattle.jj_diff.proofs.TokenEnds.{ends_more}
@@ -71,7 +70,7 @@ eqb-same a b c d to from = elim (cases_eq a b) [
   | inr n ↦ ne_eqb a b n ∙ sym (ne_eqb c d (λ e. n (from e)))
 ]
 
-left_end : (p q : List ℕ) (k : ℕ) → 1 ≤ k → k < 1 + length p → IsCut Lines (p ++ q) (length p) → is_line_end (p ++ q) k ≡ is_line_end p k
+left_end : (p q : List ℕ) (k : ℕ) → 1 ≤ k → k < 1 + length p → IsCut is_line_end (p ++ q) (length p) → is_line_end (p ++ q) k ≡ is_line_end p k
 left_end p q k le lt cut = elim (cases_lt k (length p)) [
   | inl inner ↦
       ap (λ b. (b == 10) || (k == length (p ++ q))) (get_or_append_left p q 0 (k - 1) (omega arith))
@@ -97,7 +96,7 @@ right_end p q k le =
 abbrev ends_of : List ℕ → List ℕ
 ends_of text = filter (is_line_end text) (range_with_len 1 (length text))
 
-ends-append : (p q : List ℕ) → IsCut Lines (p ++ q) (length p) → ends_of (p ++ q) ≡ ends_of p ++ map (λ k. length p + k) (ends_of q)
+ends-append : (p q : List ℕ) → IsCut is_line_end (p ++ q) (length p) → ends_of (p ++ q) ≡ ends_of p ++ map (λ k. length p + k) (ends_of q)
 ends-append p q cut =
     let e : 1 + length p ≡ length p + 1 = omega arith in
     ap (λ n. filter (is_line_end (p ++ q)) (range_with_len 1 n)) (length-append p q)
@@ -163,13 +162,13 @@ pieces_left p q (a ∷ b ∷ os) within =
 -- ---- lines
 
 abbrev pub lines_of : List ℕ → List (List ℕ)
-lines_of text = pieces text (token_offsets Lines text)
+lines_of text = pieces text (token_offsets is_line_end text)
 
-offset_within : (text : List ℕ) (k : ℕ) → k < length (token_offsets Lines text) → get_or (token_offsets Lines text) k 0 ≤ length text
+offset_within : (text : List ℕ) (k : ℕ) → k < length (token_offsets is_line_end text) → get_or (token_offsets is_line_end text) k 0 ≤ length text
 offset_within text zero lt = omega arith
 offset_within text (suc k) lt = omega (arith, filter_below (is_line_end text) 1 (length text) k (omega arith))
 
-last_offset : (p : List ℕ) → (front : List ℕ) × (token_offsets Lines p ≡ front ++ length p ∷ [])
+last_offset : (p : List ℕ) → (front : List ℕ) × (token_offsets is_line_end p ≡ front ++ length p ∷ [])
 last_offset [] = ([], refl)
 last_offset (b ∷ bs) =
     let p : List ℕ = b ∷ bs in
@@ -182,23 +181,23 @@ last_offset (b ∷ bs) =
           ∙ ap (λ k. filter (is_line_end p) (range_with_len 1 n) ++ k ∷ []) (sym e)),
     )
 
-pub lines-append : (p q : List ℕ) → IsCut Lines (p ++ q) (length p) → lines_of (p ++ q) ≡ lines_of p ++ lines_of q
+pub lines-append : (p q : List ℕ) → IsCut is_line_end (p ++ q) (length p) → lines_of (p ++ q) ≡ lines_of p ++ lines_of q
 lines-append p q cut =
-    let last : (front : List ℕ) × (token_offsets Lines p ≡ front ++ length p ∷ []) = last_offset p in
+    let last : (front : List ℕ) × (token_offsets is_line_end p ≡ front ++ length p ∷ []) = last_offset p in
     let moved : List ℕ = map (λ k. length p + k) (ends_of q) in
     let none : length p ≡ length p + 0 = omega arith in
-    let offsets : token_offsets Lines (p ++ q) ≡ last.0 ++ (length p ∷ moved) =
+    let offsets : token_offsets is_line_end (p ++ q) ≡ last.0 ++ (length p ∷ moved) =
     ap (λ xs. 0 ∷ xs) (ends-append p q cut) ∙ ap (λ xs. xs ++ moved) last.1 ∙ append_assoc last.0 (length p ∷ []) moved in
     ap (pieces (p ++ q)) offsets
     ∙ pieces_joined (p ++ q) last.0 (length p) moved
     ∙ ap (λ os. pieces (p ++ q) os ++ pieces (p ++ q) (length p ∷ moved)) (sym last.1)
-    ∙ ap (λ xs. xs ++ pieces (p ++ q) (length p ∷ moved)) (pieces_left p q (token_offsets Lines p) (offset_within p))
+    ∙ ap (λ xs. xs ++ pieces (p ++ q) (length p ∷ moved)) (pieces_left p q (token_offsets is_line_end p) (offset_within p))
     ∙ ap (λ k. lines_of p ++ pieces (p ++ q) (k ∷ moved)) none
     ∙ ap (λ xs. lines_of p ++ xs) (pieces_right p q (0 ∷ ends_of q))
 
 -- ---- lines of part i of all hunks
 
-rest_cut : (p q : List ℕ) (n : ℕ) → IsCut Lines (p ++ q) (length p + n) → IsCut Lines q n
+rest_cut : (p q : List ℕ) (n : ℕ) → IsCut is_line_end (p ++ q) (length p + n) → IsCut is_line_end q n
 rest_cut p q zero cut = inl refl
 rest_cut p q (suc n) cut = elim cut [
   | inl none ↦ absurd (omega (arith, none))
@@ -209,13 +208,13 @@ abbrev pub part_lines : ℕ → DiffHunk → List (List ℕ)
 part_lines i hunk = lines_of (part_of i hunk)
 
 pub lines_of_hunks : (i : ℕ) (hs : List DiffHunk)
-    → ((k : ℕ) → k ≤ length hs → IsCut Lines (side i (map row_of hs)) (length (side i (map row_of (take k hs)))))
+    → ((k : ℕ) → k ≤ length hs → IsCut is_line_end (side i (map row_of hs)) (length (side i (map row_of (take k hs)))))
     → lines_of (side i (map row_of hs)) ≡ flat_map (part_lines i) hs
 lines_of_hunks i [] cuts = refl
 lines_of_hunks i (h ∷ hs) cuts =
     let p : List ℕ = part_of i h in
     let q : List ℕ = side i (map row_of hs) in
-    lines-append p q (subst (λ xs. IsCut Lines (p ++ q) (length xs)) (append-nil p) (cuts 1 (omega arith)))
+    lines-append p q (subst (λ xs. IsCut is_line_end (p ++ q) (length xs)) (append-nil p) (cuts 1 (omega arith)))
     ∙ ap (λ ls. lines_of p ++ ls) (lines_of_hunks i hs (λ k le.
     rest_cut p q (length (side i (map row_of (take k hs))))
-    (subst (IsCut Lines (p ++ q)) (length-append p (side i (map row_of (take k hs)))) (cuts (suc k) (omega arith)))))
+    (subst (IsCut is_line_end (p ++ q)) (length-append p (side i (map row_of (take k hs)))) (cuts (suc k) (omega arith)))))

@@ -5,7 +5,6 @@ use Rattle.std.specs.Prelude.{◌≡◌, ◌⊎◌, ℕ, ◌-◌, ◌<◌, ◌�
 use Rattle.std.specs.List.{range_with_len, slice_index_or}
 use Rattle.jj_diff.specs.declared.diff.hunks.DiffHunk.{DiffHunk}
 use Rattle.jj_diff.specs.declared.diff.hunks.DiffHunkKind.TheVariants.{Matching, Different}
-use Rattle.jj_diff.specs.declared.diff.tokens.Tokenizer.TheVariants.{Lines}
 use Rattle.jj_diff.specs.Inputs.{side}
 use Rattle.jj_diff.specs.Tokens.{is_line_end}
 use Rattle.jj_diff.specs.Anchors.{StandsAt, StandsOnce, token_offsets}
@@ -34,7 +33,7 @@ HasFewLines text = length (filter (is_line_end text) (range_with_len 1 (length t
 abbrev pub SharesNoLine : DiffHunk → Type 0
 SharesNoLine hunk = hunk.kind ≡ Different → (left right line : List ℕ)
     → row_of hunk ≡ left ∷ right ∷ [] → HasFewLines left → HasFewLines right
-    → StandsOnce Lines left line → ¬ (StandsOnce Lines right line)
+    → StandsOnce is_line_end left line → ¬ (StandsOnce is_line_end right line)
 
 -- part i of the hunk
 abbrev pub part_of : ℕ → DiffHunk → List ℕ
@@ -62,7 +61,7 @@ pub record AreWholeLines (left right : List ℕ) (hunks : List DiffHunk) : Type 
 
 -- the byte string has the line
 abbrev pub HasLine : List ℕ → List ℕ → Type 0
-HasLine line text = (k : ℕ) × StandsAt text (token_offsets Lines text) line k
+HasLine line text = (k : ℕ) × StandsAt text (token_offsets is_line_end text) line k
 
 -- part i of some hunk has the line
 abbrev pub PartsHave : ℕ → List ℕ → List DiffHunk → Type 0
@@ -91,5 +90,5 @@ HasSmallChanges = All (λ hunk. hunk.kind ≡ Different
 -- A line that is exactly once in each version matches, or is before a hunk that matches in one
 -- version and after it in the other, if hunks that differ have at most 64 lines.
 pub record KeepsLines (left right : List ℕ) (hunks : List DiffHunk) : Type 0 where
-  pub each : HasSmallChanges hunks → (line : List ℕ) → StandsOnce Lines left line
-      → StandsOnce Lines right line → LineMatches line hunks ⊎ LineCrosses line hunks
+  pub each : HasSmallChanges hunks → (line : List ℕ) → StandsOnce is_line_end left line
+      → StandsOnce is_line_end right line → LineMatches line hunks ⊎ LineCrosses line hunks

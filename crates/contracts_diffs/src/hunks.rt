@@ -1,13 +1,12 @@
 //! Callers of `jj_diff` that state the kind and the position of each hunk of a comparison.
-ghost use Rattle.std.specs.Prelude.{◌≡◌, map, All, IfOk};
+ghost use Rattle.std.specs.Prelude.{◌≡◌, ◌∷◌, [], map, All, IfOk};
+ghost use Rattle.jj_diff.specs.declared.diff.hunks.DiffHunkKind.TheVariants.{Matching, Different};
 ghost use Rattle.jj_diff.specs.Inputs.{side};
 ghost use Rattle.jj_diff.specs.Hunks.{row_of, AllMatch, Alternate};
 ghost use Rattle.jj_diff.specs.Whitespace.{without_whitespace};
 ghost use Rattle.contracts_diffs.specs.Lines.{AreWholeLines, HasBytes, HasEqualParts};
 
-use jj_diff::diff::{
-    CompareBytesIgnoreAllWhitespace, ContentDiff, DiffHunk, Tokenizer, diff_by_line,
-};
+use jj_diff::diff::{CompareBytesIgnoreAllWhitespace, ContentDiff, DiffHunk, Lines, diff_by_line};
 use std::alloc::{AllocError, Global};
 
 /// Compares two versions of a file line by line.
@@ -32,6 +31,25 @@ pub fn compare_hunks<'a>(
     Ok(hunks)
 }
 
+/// Returns two strings as a hunk, which matches if they are equal.
+pub fn hunk_of<'a>(
+    alloc: Global,
+    left: &'a [u8],
+    right: &'a [u8],
+) -> Result<DiffHunk<'a>, AllocError>
+    // The parts of the hunk are the strings.
+    ensures parts { IfOk result (λ hunk. row_of hunk ≡ left.now ∷ right.now ∷ []) }
+    // It matches exactly if they are equal.
+    ensures matching { IfOk result (λ hunk. hunk.kind ≡ Matching → left.now ≡ right.now) }
+    ensures different { IfOk result (λ hunk. hunk.kind ≡ Different → ¬ (left.now ≡ right.now)) }
+{
+    let contents = vec![in alloc; left, right]?;
+    if left == right {
+        return Ok(DiffHunk::matching(contents));
+    }
+    Ok(DiffHunk::different(contents))
+}
+
 /// Compares two versions of a file line by line, without their white space.
 #[tactic(auto, using(crate::proofs::Lines::hunk_steps))]
 pub fn compare_without_whitespace<'a>(
@@ -51,6 +69,6 @@ pub fn compare_without_whitespace<'a>(
         → AllMatch d.hunks.items) }
 {
     let compare = CompareBytesIgnoreAllWhitespace;
-    let compared = ContentDiff::for_tokenizer(alloc, &[left, right], Tokenizer::Lines, &compare)?;
+    let compared = ContentDiff::for_tokenizer(alloc, &[left, right], &Lines, &compare)?;
     Ok(compared)
 }

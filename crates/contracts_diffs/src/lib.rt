@@ -4,6 +4,7 @@
 #![tactic(auto)]
 
 pub mod changes;
+pub mod fields;
 pub mod files;
 pub mod hunks;
 pub mod words;

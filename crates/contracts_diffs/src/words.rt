@@ -4,11 +4,11 @@ ghost use Rattle.jj_diff.specs.Inputs.{side};
 ghost use Rattle.jj_diff.specs.Hunks.{row_of, matched_start, matched_end, AreTrimmed, IsDiff, MatchesEnds};
 ghost use Rattle.jj_diff.specs.Refined.{KeepsMatches};
 ghost use Rattle.jj_diff.specs.declared.diff.hunks.DiffHunk.{DiffHunk};
-ghost use Rattle.jj_diff.specs.declared.diff.tokens.Tokenizer.TheVariants.{Lines, Words};
+ghost use Rattle.jj_diff.specs.Tokens.{is_line_end, is_word_end};
 ghost use Rattle.contracts_diffs.specs.Lines.{EndsInLine};
 ghost use Rattle.contracts_diffs.specs.Ranges.{IsContiguous, left_parts, parts_at};
 
-use jj_diff::diff::{CompareBytesExactly, ContentDiff, Tokenizer};
+use jj_diff::diff::{CompareBytesExactly, ContentDiff, Words};
 use std::alloc::{AllocError, Global};
 use std::ops::Range;
 
@@ -36,15 +36,15 @@ pub fn compare_words<'a>(
     // Each hunk of the comparison by lines that matches is part of a matching hunk, at the same
     // offset of both versions.
     ensures kept { IfOk result (λ d. (hunks : List DiffHunk)
-        × IsDiff Lines (left.now ∷ right.now ∷ []) hunks
-        × MatchesEnds Lines (left.now ∷ right.now ∷ []) hunks
+        × IsDiff is_line_end (left.now ∷ right.now ∷ []) hunks
+        × MatchesEnds is_line_end (left.now ∷ right.now ∷ []) hunks
         × KeepsMatches 2 hunks d.hunks.items) }
     // No part of a hunk that differs starts or ends with a word that all its parts start or end
     // with.
-    ensures trimmed { IfOk result (λ d. AreTrimmed Words d.hunks.items) }
+    ensures trimmed { IfOk result (λ d. AreTrimmed is_word_end d.hunks.items) }
 {
     let mut compared = ContentDiff::by_line(alloc, &[left, right])?;
-    compared.refine_changed_regions(alloc, Tokenizer::Words, &CompareBytesExactly)?;
+    compared.refine_changed_regions(alloc, &Words, &CompareBytesExactly)?;
     Ok(compared)
 }
 
@@ -57,7 +57,7 @@ pub fn left_ranges(
 ) -> Result<Vec<Range<usize>>, AllocError>
     // The bytes in the ranges are the left parts of the hunks.
     ensures parts { IfOk result (λ ranges. (hunks : List DiffHunk)
-        × IsDiff Lines (left.now ∷ right.now ∷ []) hunks
+        × IsDiff is_line_end (left.now ∷ right.now ∷ []) hunks
         × (parts_at left.now ranges.items ≡ left_parts hunks)) }
     // The first range starts at 0, and each other one where the one before it ends.
     ensures contiguous { IfOk result (λ ranges. IsContiguous 0 ranges.items) }

@@ -2,11 +2,10 @@
 use Rattle.std.proofs.Common.{◌≡◌, ℕ, zero, suc, ◌+◌, ◌<◌, ◌≤◌, true, false, ◌&&◌, List, [], ◌∷◌, ◌++◌, length, get_or, map, drop, codes, refl, sym, ap, ◌∙◌, subst, arith, append_assoc, append-nil, Vec, Global, Bor, All}
 use Rattle.std.specs.List.{concat}
 use Rattle.std.proofs.lemmas.List.{at_drop_more, at_drop_all, length-map}
+use Rattle.jj_diff.specs.Tokens.{is_line_end, TokenEnds}
 use Rattle.jj_diff.specs.declared.diff.hunks.DiffHunk.{DiffHunk}
 use Rattle.jj_diff.specs.declared.diff.hunks.DiffHunkKind.{DiffHunkKind}
 use Rattle.jj_diff.specs.declared.diff.hunks.DiffHunkKind.TheVariants.{Matching, Different}
-use Rattle.jj_diff.specs.declared.diff.tokens.Tokenizer.{Tokenizer}
-use Rattle.jj_diff.specs.declared.diff.tokens.Tokenizer.TheVariants.{Lines}
 use Rattle.jj_diff.specs.Inputs.{bytes_of}
 use Rattle.jj_diff.specs.Hunks.{row_of, IsDiff, MatchesEnds}
 use Rattle.jj_conflicts.specs.Contents.{merge_contents}
@@ -89,13 +88,13 @@ label_shown (b ∷ base) [] h k = absurd (k refl)
 label_shown (b ∷ base) (c ∷ side) h k = refl
 
 -- a comparison of two inputs has rows of two parts
-pub two_parts : (tokenizer : Tokenizer) (a b : List ℕ) (hs : List DiffHunk)
-    → IsDiff tokenizer (a ∷ b ∷ []) hs → All (λ h. length h.contents.items ≡ 2) hs
-two_parts tokenizer a b hs diff k d lt =
+pub two_parts : (is_end : TokenEnds) (a b : List ℕ) (hs : List DiffHunk)
+    → IsDiff is_end (a ∷ b ∷ []) hs → All (λ h. length h.contents.items ≡ 2) hs
+two_parts is_end a b hs diff k d lt =
     sym (length-map (get_or hs k d).contents.items (λ r. r.now)) ∙ (diff.hunks k d lt).len
 
 pub section_made : (n : ℕ) (label base side text : List ℕ) (hs : List DiffHunk)
-    → IsDiff Lines (base ∷ side ∷ []) hs → MatchesEnds Lines (base ∷ side ∷ []) hs
+    → IsDiff is_line_end (base ∷ side ∷ []) hs → MatchesEnds is_line_end (base ∷ side ∷ []) hs
     → text ≡ marker_line 37 n label false ++ diff_text hs
     → IsDiffSection n label base side text
 section_made n label base side text hs diff ends e =

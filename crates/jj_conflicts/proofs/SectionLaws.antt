@@ -8,9 +8,8 @@ use Rattle.std.specs.List.{list_all, concat, AllByRecursion}
 use Rattle.jj_diff.specs.declared.diff.hunks.DiffHunk.{DiffHunk}
 use Rattle.jj_diff.specs.declared.diff.hunks.DiffHunkKind.{DiffHunkKind}
 use Rattle.jj_diff.specs.declared.diff.hunks.DiffHunkKind.TheVariants.{Matching, Different}
-use Rattle.jj_diff.specs.declared.diff.tokens.Tokenizer.TheVariants.{Lines}
 use Rattle.jj_diff.specs.Inputs.{side}
-use Rattle.jj_diff.specs.Tokens.{IsCut}
+use Rattle.jj_diff.specs.Tokens.{is_line_end, IsCut}
 use Rattle.jj_diff.specs.Hunks.{row_of, IsHunk, IsDiff}
 use Rattle.jj_conflicts.specs.Lines.{split_lines, is_terminated, terminated}
 use Rattle.jj_conflicts.specs.Markers.{run_length, marker_of, marker_line}
@@ -165,7 +164,7 @@ or-cases true b h = inl refl
 or-cases false b h = inr h
 
 -- the bytes before a cut end in LF
-cut-ended : (xs ys : List ℕ) → is_terminated (xs ++ ys) ≡ true → IsCut Lines (xs ++ ys) (length xs)
+cut-ended : (xs ys : List ℕ) → is_terminated (xs ++ ys) ≡ true → IsCut is_line_end (xs ++ ys) (length xs)
     → is_terminated xs ≡ true
 cut-ended [] ys t cut = refl
 cut-ended (x ∷ xs) ys t cut = elim cut [
@@ -198,14 +197,14 @@ parts-ended i (h ∷ hs) ended =
 
 prefix-ended : (i : ℕ) (input : List ℕ) (hs : List DiffHunk) → side i (map row_of hs) ≡ input
     → is_terminated input ≡ true
-    → ((k : ℕ) → k ≤ length hs → IsCut Lines input (length (side i (map row_of (take k hs)))))
+    → ((k : ℕ) → k ≤ length hs → IsCut is_line_end input (length (side i (map row_of (take k hs)))))
     → (k : ℕ) → k ≤ length hs → is_terminated (side i (map row_of (take k hs))) ≡ true
 prefix-ended i input hs e t cuts k le =
     let xs : List ℕ = side i (map row_of (take k hs)) in
     let ys : List ℕ = side i (map row_of (drop k hs)) in
     let whole : input ≡ xs ++ ys = sym e ∙ sym (side-split i k hs) in
     cut-ended xs ys (subst (λ z. is_terminated z ≡ true) whole t)
-    (subst (λ z. IsCut Lines z (length xs)) whole (cuts k le))
+    (subst (λ z. IsCut is_line_end z (length xs)) whole (cuts k le))
 
 parts-short : (n i : ℕ) (hs : List DiffHunk)
     → AllByRecursion (λ h. is_terminated (get_or (row_of h) i []) ≡ true) hs
@@ -241,7 +240,7 @@ readable n (h ∷ hs) hunks a b c d =
     )
 
 diff-readable : (n : ℕ) (base side' : List ℕ) (hs : List DiffHunk)
-    → IsDiff Lines (base ∷ side' ∷ []) hs → is_terminated base ≡ true → is_terminated side' ≡ true
+    → IsDiff is_line_end (base ∷ side' ∷ []) hs → is_terminated base ≡ true → is_terminated side' ≡ true
     → IsUnmarked (n - 1) base → IsUnmarked (n - 1) side' → AllByRecursion (IsReadable n) hs
 diff-readable n base side' hs diff t u s r =
     let zero_lt : 0 < 2 = omega arith in

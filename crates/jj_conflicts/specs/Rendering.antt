@@ -2,10 +2,10 @@
 -- Cited by contracts of public items: rendered, IsRendered.
 use Rattle.std.specs.Prelude.{◌≡◌, ℕ, ◌+◌, ◌%◌, Bool, true, false, List, [], ◌∷◌, ◌++◌, ◌==◌, not, if◌then◌else◌, slice_get, unwrap_or, codes, decimal, map}
 use Rattle.std.specs.List.{concat, list_all, slice_index_or}
+use Rattle.jj_diff.specs.Tokens.{is_line_end}
 use Rattle.jj_diff.specs.declared.diff.hunks.DiffHunk.{DiffHunk}
 use Rattle.jj_diff.specs.declared.diff.hunks.DiffHunkKind.{DiffHunkKind}
 use Rattle.jj_diff.specs.declared.diff.hunks.DiffHunkKind.TheVariants.{Matching, Different}
-use Rattle.jj_diff.specs.declared.diff.tokens.Tokenizer.TheVariants.{Lines}
 use Rattle.jj_diff.specs.Hunks.{row_of, IsDiff, MatchesEnds}
 use Rattle.jj_conflicts.specs.Lines.{split_lines, is_terminated, terminated}
 use Rattle.jj_conflicts.specs.Markers.{marker_line}
@@ -87,8 +87,8 @@ diff_label (b ∷ base) (c ∷ side) = codes "from " ++ b ∷ base ++ codes " to
 -- a marker line and a comparison of a base with a side by lines
 pub record IsDiffSection (n : ℕ) (label base side text : List ℕ) : Type 0 where
   pub hunks : List DiffHunk
-  pub diff : IsDiff Lines (base ∷ side ∷ []) hunks
-  pub ends : MatchesEnds Lines (base ∷ side ∷ []) hunks
+  pub diff : IsDiff is_line_end (base ∷ side ∷ []) hunks
+  pub ends : MatchesEnds is_line_end (base ∷ side ∷ []) hunks
   pub text_is : text ≡ marker_line 37 n label false ++ diff_text hunks
 
 -- each base, compared with the side before it, and the last side; i is the index of the first side

@@ -7,8 +7,7 @@ use Rattle.std.proofs.lemmas.Slice.Eq.{bytes_eq-Decides}
 use Rattle.std.proofs.lemmas.List.Elements.{All-head, All-tail}
 use Rattle.std.proofs.lemmas.Grind.{common_steps, elements}
 use Rattle.jj_diff.specs.Inputs.{side}
-use Rattle.jj_diff.specs.Tokens.{IsCut}
-use Rattle.jj_diff.specs.declared.diff.tokens.Tokenizer.TheVariants.{Lines}
+use Rattle.jj_diff.specs.Tokens.{is_line_end, IsCut}
 use Rattle.jj_merges.specs.declared.merge.SameChange.{SameChange}
 use Rattle.jj_merges.specs.declared.merge.SameChange.TheVariants.{Keep, Accept}
 use Rattle.jj_merges.specs.Resolution.{ResolvesTo}
@@ -36,7 +35,7 @@ or_cases true b e = inl refl
 or_cases false b e = inr e
 
 part_lines : (before part after : List ℕ) → IsLines (before ++ (part ++ after))
-    → IsCut Lines (before ++ (part ++ after)) (length (before ++ part)) → IsLines part
+    → IsCut is_line_end (before ++ (part ++ after)) (length (before ++ part)) → IsLines part
 part_lines before [] after whole cut = refl
 part_lines before (b ∷ bs) after whole cut =
     let part : List ℕ = b ∷ bs in
@@ -63,7 +62,7 @@ part_lines before (b ∷ bs) after whole cut =
 module _ (i : ℕ) where
   abbrev Cuts : List ℕ → List (List (List ℕ)) → Type 0
   Cuts before rows = (k : ℕ) → k ≤ length rows
-      → IsCut Lines (before ++ side i rows) (length (before ++ side i (take k rows)))
+      → IsCut is_line_end (before ++ side i rows) (length (before ++ side i (take k rows)))
 
   abbrev pub HasLines : List (List (List ℕ)) → Type 0
   HasLines [] = Unit {0}
@@ -77,23 +76,23 @@ module _ (i : ℕ) where
       let again : (before ++ part) ++ side i rows ≡ before ++ (part ++ side i rows)
       = append_assoc before part (side i rows) in (
         part_lines before part (side i rows) whole
-            (subst (λ p. IsCut Lines (before ++ (part ++ side i rows)) (length (before ++ p)))
+            (subst (λ p. IsCut is_line_end (before ++ (part ++ side i rows)) (length (before ++ p)))
             (append-nil part) (cuts 1 (omega arith))),
         rows_lines (before ++ part) rows (subst IsLines (sym again) whole)
-            (λ k le. subst (λ text. IsCut Lines text (length ((before ++ part) ++ side i (take k rows))))
+            (λ k le. subst (λ text. IsCut is_line_end text (length ((before ++ part) ++ side i (take k rows))))
             (sym again)
-            (subst (λ p. IsCut Lines (before ++ (part ++ side i rows)) (length p))
+            (subst (λ p. IsCut is_line_end (before ++ (part ++ side i rows)) (length p))
             (sym (append_assoc before part (side i (take k rows))))
             (cuts (suc k) (omega arith)))),
       )
 
   pub input_lines : (text : List ℕ) (rows : List (List (List ℕ))) → side i rows ≡ text
       → IsLines text
-      → ((k : ℕ) → k ≤ length rows → IsCut Lines text (length (side i (take k rows))))
+      → ((k : ℕ) → k ≤ length rows → IsCut is_line_end text (length (side i (take k rows))))
       → HasLines rows
   input_lines text rows e lines cuts =
       rows_lines [] rows (subst IsLines (sym e) lines)
-      (λ k le. subst (λ x. IsCut Lines x (length (side i (take k rows)))) (sym e) (cuts k le))
+      (λ k le. subst (λ x. IsCut is_line_end x (length (side i (take k rows)))) (sym e) (cuts k le))
 
 -- ---- hunks of whole lines
 

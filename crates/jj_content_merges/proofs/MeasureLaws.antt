@@ -6,8 +6,8 @@ use Rattle.std.proofs.lemmas.Bool.{cases_Bool}
 use Rattle.std.proofs.lemmas.Cmp.{nat_list_eq_equiv}
 use Rattle.std.proofs.lemmas.Slice.Eq.{bytes_eq-Decides}
 use Rattle.std.proofs.lemmas.List.Elements.{All-head, All-tail}
+use Rattle.jj_diff.specs.Tokens.{TokenEnds}
 use Rattle.jj_diff.specs.Inputs.{side}
-use Rattle.jj_diff.specs.declared.diff.tokens.Tokenizer.{Tokenizer}
 use Rattle.jj_merges.specs.declared.merge.SameChange.TheVariants.{Keep}
 use Rattle.jj_merges.specs.Resolution.{ResolvesTo}
 use Rattle.jj_merges.proofs.ThreeWay.{kept}
@@ -81,10 +81,10 @@ rows_measure f additive R keeps (row ∷ rows) (t ∷ hunks) width outcomes =
       additive.append (get_or row 2 []) (side 2 rows),
     )
 
-token_measure : (f : List ℕ → ℕ) → IsAdditive f → (tokenizer : Tokenizer) (l b r : List ℕ)
-    (hunks : List (List (List ℕ))) → IsTokenMerge tokenizer Keep (l ∷ b ∷ r ∷ []) hunks
+token_measure : (f : List ℕ → ℕ) → IsAdditive f → (is_end : TokenEnds) (l b r : List ℕ)
+    (hunks : List (List (List ℕ))) → IsTokenMerge is_end Keep (l ∷ b ∷ r ∷ []) hunks
     → f (merged_side 0 hunks) + f (merged_side 2 hunks) + f b ≡ f l + f r + f (merged_side 1 hunks)
-token_measure f additive tokenizer l b r hunks m =
+token_measure f additive is_end l b r hunks m =
     omega (
       arith,
       rows_measure f additive (IsOutcome Keep) (outcome_measure f) m.rows hunks m.split.width m.outcomes,

@@ -8,11 +8,9 @@ use Rattle.std.specs.List.{fold, AllZip}
 use Rattle.std.proofs.lemmas.List.{take_more, take_all, length-map, append-nil, map_push}
 use Rattle.std.proofs.lemmas.List.Elements.{AllZip-push, All-map, All-nil, All-cons}
 use Rattle.jj_diff.specs.declared.diff.hunks.DiffHunk.{DiffHunk}
-use Rattle.jj_diff.specs.declared.diff.tokens.Tokenizer.{Tokenizer}
-use Rattle.jj_diff.specs.declared.diff.tokens.Tokenizer.TheVariants.{Lines, Words}
 use Rattle.jj_diff.specs.Inputs.{bytes_of, side}
-use Rattle.jj_diff.specs.Tokens.{IsCut}
-use Rattle.jj_diff.proofs.Rows.{cut_whole}
+use Rattle.jj_diff.specs.Tokens.{is_line_end, is_word_end, IsCut, TokenEnds}
+use Rattle.jj_diff.specs.Tokenizers.{line_tokens}
 use Rattle.jj_diff.specs.Hunks.{row_of, IsDiff}
 use Rattle.jj_merges.specs.declared.merge.SameChange.{SameChange}
 use Rattle.jj_merges.specs.declared.merge.SameChange.TheVariants.{Keep, Accept}
@@ -88,9 +86,9 @@ pub length-bytes_of : (m : List Text) → length (bytes_of m) ≡ length m
 length-bytes_of m = length-map m (λ r. r.now)
 
 -- a comparison of an odd number of inputs has odd rows
-pub odd_rows : (tokenizer : Tokenizer) (inputs : List (List ℕ)) (hs : List DiffHunk) → IsDiff tokenizer inputs hs
+pub odd_rows : (is_end : TokenEnds) (inputs : List (List ℕ)) (hs : List DiffHunk) → IsDiff is_end inputs hs
     → IsOdd (length inputs) → All (λ h. IsOdd (length h.contents.items)) hs
-odd_rows tokenizer inputs hs diff odd k d lt =
+odd_rows is_end inputs hs diff odd k d lt =
     subst IsOdd (sym (sym (length-bytes_of (get_or hs k d).contents.items) ∙ (diff.hunks k d lt).len)) odd
 
 take-map : (k : ℕ) (hs : List DiffHunk) → take k (map row_of hs) ≡ map row_of (take k hs)
@@ -100,35 +98,35 @@ take-map (suc k) (h ∷ hs) = ap (λ rows. row_of h ∷ rows) (take-map k hs)
 
 -- a single row ends where the inputs end
 whole_lines : (inputs : List (List ℕ)) (i k : ℕ)
-    → IsCut Lines (get_or inputs i []) (length (side i (take k (inputs ∷ []))))
+    → IsCut is_line_end (get_or inputs i []) (length (side i (take k (inputs ∷ []))))
 whole_lines inputs i zero = inl refl
 whole_lines inputs i (suc zero) =
-    subst (λ xs. IsCut Lines (get_or inputs i []) (length xs)) (sym (append-nil (get_or inputs i []))) (cut_whole Lines (get_or inputs i []))
+    subst (λ xs. IsCut is_line_end (get_or inputs i []) (length xs)) (sym (append-nil (get_or inputs i []))) (line_tokens.whole (get_or inputs i []))
 whole_lines inputs i (suc (suc k)) =
-    subst (λ xs. IsCut Lines (get_or inputs i []) (length xs)) (sym (append-nil (get_or inputs i []))) (cut_whole Lines (get_or inputs i []))
+    subst (λ xs. IsCut is_line_end (get_or inputs i []) (length xs)) (sym (append-nil (get_or inputs i []))) (line_tokens.whole (get_or inputs i []))
 
 -- the rows of a comparison
-split_of : (tokenizer : Tokenizer) (inputs : List (List ℕ)) (hs : List DiffHunk) → IsDiff tokenizer inputs hs
-    → IsSplit tokenizer inputs (map row_of hs)
-split_of tokenizer inputs hs diff = record {
+split_of : (is_end : TokenEnds) (inputs : List (List ℕ)) (hs : List DiffHunk) → IsDiff is_end inputs hs
+    → IsSplit is_end inputs (map row_of hs)
+split_of is_end inputs hs diff = record {
   width = All-map (λ row. length row ≡ length inputs) row_of hs (λ k d lt. (diff.hunks k d lt).len);
   sides = diff.sides;
   cuts = λ k i le lt.
-      subst (λ rows. IsCut tokenizer (get_or inputs i []) (length (side i rows))) (sym (take-map k hs))
+      subst (λ rows. IsCut is_end (get_or inputs i []) (length (side i rows))) (sym (take-map k hs))
       (diff.cuts k i (subst (λ n. k ≤ n) (length-map hs row_of) le) lt);
 }
 
-pub token_merge : (tokenizer : Tokenizer) (same : SameChange) (inputs : List (List ℕ)) (hs : List DiffHunk)
-    (ms : List MergeHunk) → IsDiff tokenizer inputs hs → Outcomes same (map row_of hs) (map terms_of ms)
-    → IsTokenMerge tokenizer same inputs (map terms_of ms)
-token_merge tokenizer same inputs hs ms diff outcomes =
-    record { rows = map row_of hs; split = split_of tokenizer inputs hs diff; outcomes = outcomes }
+pub token_merge : (is_end : TokenEnds) (same : SameChange) (inputs : List (List ℕ)) (hs : List DiffHunk)
+    (ms : List MergeHunk) → IsDiff is_end inputs hs → Outcomes same (map row_of hs) (map terms_of ms)
+    → IsTokenMerge is_end same inputs (map terms_of ms)
+token_merge is_end same inputs hs ms diff outcomes =
+    record { rows = map row_of hs; split = split_of is_end inputs hs diff; outcomes = outcomes }
 
 pub content_merge : (level : FileMergeHunkLevel) (same : SameChange) (inputs : List (List ℕ)) (hs : List DiffHunk)
-    (ms : List MergeHunk) → IsDiff Lines inputs hs → AllZip (IsHunk level same) (map row_of hs) (map terms_of ms)
+    (ms : List MergeHunk) → IsDiff is_line_end inputs hs → AllZip (IsHunk level same) (map row_of hs) (map terms_of ms)
     → IsContentMerge level same inputs (map terms_of ms)
 content_merge level same inputs hs ms diff outcomes =
-    record { rows = map row_of hs; split = split_of Lines inputs hs diff; outcomes = outcomes }
+    record { rows = map row_of hs; split = split_of is_line_end inputs hs diff; outcomes = outcomes }
 
 one_not_zero : pos 1 ≡ pos 0 → ⊥
 one_not_zero e = grind (arith, ints)
@@ -156,7 +154,7 @@ whole_merge level same inputs v hunks e r = record {
 
 -- the outcome of a merge by words
 pub words_resolved : (same : SameChange) (row : List (List ℕ)) (ms : List (List (List ℕ)))
-    (text : List ℕ) → IsTokenMerge Words same row ms → all_resolved ms ≡ true → text ≡ merged_side 0 ms
+    (text : List ℕ) → IsTokenMerge is_word_end same row ms → all_resolved ms ≡ true → text ≡ merged_side 0 ms
     → IsWordMerge same row (text ∷ [])
 words_resolved same row ms text m e f = record {
   words = ms;
@@ -166,7 +164,7 @@ words_resolved same row ms text m e f = record {
 }
 
 pub words_unresolved : (same : SameChange) (row terms : List (List ℕ)) (ms : List (List (List ℕ)))
-    → IsTokenMerge Words same row ms → all_resolved ms ≡ false → terms ≡ row
+    → IsTokenMerge is_word_end same row ms → all_resolved ms ≡ false → terms ≡ row
     → IsWordMerge same row terms
 words_unresolved same row terms ms m e f = record {
   words = ms;

@@ -4,10 +4,8 @@
 use Rattle.std.specs.Prelude.{◌≡◌, ◌⊎◌, ℕ, ◌<◌, ◌≤◌, true, false, List, [], ◌∷◌, length, take, All, Option, Some, None, if◌then◌else◌}
 use Rattle.std.specs.List.{AllZip, slice_index_or}
 use Rattle.std.specs.Str.{bytes_eq}
-use Rattle.jj_diff.specs.declared.diff.tokens.Tokenizer.{Tokenizer}
-use Rattle.jj_diff.specs.declared.diff.tokens.Tokenizer.TheVariants.{Lines, Words}
 use Rattle.jj_diff.specs.Inputs.{bytes_of, side}
-use Rattle.jj_diff.specs.Tokens.{IsCut}
+use Rattle.jj_diff.specs.Tokens.{is_line_end, is_word_end, IsCut, TokenEnds}
 use Rattle.jj_merges.specs.declared.merge.SameChange.{SameChange}
 use Rattle.jj_merges.specs.Resolution.{ResolvesTo}
 use Rattle.jj_content_merges.specs.declared.files.FileMergeHunkLevel.{FileMergeHunkLevel}
@@ -25,12 +23,12 @@ terms_of (Merged text) = text.items ∷ []
 terms_of (Conflict row) = bytes_of row.items
 
 -- the columns of the rows, joined, are the inputs, and no row cuts a token
-pub record IsSplit (tokenizer : Tokenizer) (inputs : List (List ℕ)) (rows : List (List (List ℕ)))
+pub record IsSplit (is_end : TokenEnds) (inputs : List (List ℕ)) (rows : List (List (List ℕ)))
     : Type 0 where
   pub width : All (λ row. length row ≡ length inputs) rows
   pub sides : (i : ℕ) → i < length inputs → side i rows ≡ slice_index_or inputs i []
   pub cuts : (k i : ℕ) → k ≤ length rows → i < length inputs
-      → IsCut tokenizer (slice_index_or inputs i []) (length (side i (take k rows)))
+      → IsCut is_end (slice_index_or inputs i []) (length (side i (take k rows)))
 
 -- the row resolves to the only term, or to nothing and the terms are the row
 abbrev pub IsOutcome : SameChange → List (List ℕ) → List (List ℕ) → Type 0
@@ -43,16 +41,16 @@ abbrev pub Outcomes : SameChange → List (List (List ℕ)) → List (List (List
 Outcomes same = AllZip (IsOutcome same)
 
 -- the hunks are the outcomes of rows of tokens, whose columns, joined, are the inputs
-pub record IsTokenMerge (tokenizer : Tokenizer) (same : SameChange) (inputs : List (List ℕ))
+pub record IsTokenMerge (is_end : TokenEnds) (same : SameChange) (inputs : List (List ℕ))
     (hunks : List (List (List ℕ))) : Type 0 where
   pub rows : List (List (List ℕ))
-  pub split : IsSplit tokenizer inputs rows
+  pub split : IsSplit is_end inputs rows
   pub outcomes : Outcomes same rows hunks
 
 -- the outcome of a row that does not resolve: a merge by words that leaves no conflict, or the row
 pub record IsWordMerge (same : SameChange) (row terms : List (List ℕ)) : Type 0 where
   pub words : List (List (List ℕ))
-  pub merge : IsTokenMerge Words same row words
+  pub merge : IsTokenMerge is_word_end same row words
   pub outcome : terms ≡ (if all_resolved words then merged_side 0 words ∷ [] else row)
 
 -- the outcome of a row that does not resolve
@@ -70,7 +68,7 @@ IsHunk level same row terms =
 pub record IsContentMerge (level : FileMergeHunkLevel) (same : SameChange)
     (inputs : List (List ℕ)) (hunks : List (List (List ℕ))) : Type 0 where
   pub rows : List (List (List ℕ))
-  pub split : IsSplit Lines inputs rows
+  pub split : IsSplit is_line_end inputs rows
   pub outcomes : AllZip (IsHunk level same) rows hunks
 
 -- resolved exactly if no hunk is a conflict: then the hunks in one, else joined

@@ -1,15 +1,15 @@
 -- An anchor of a row as a region of the inputs.
 use Rattle.std.proofs.Common.{◌≡◌, ℕ, ◌+◌, ◌<◌, ◌≤◌, List, [], length, get_or, ap, sym, ◌∙◌, subst, arith}
 use Rattle.std.specs.List.{slice_range}
-use Rattle.jj_diff.specs.declared.diff.tokens.Tokenizer.{Tokenizer}
-use Rattle.jj_diff.specs.Tokens.{IsCut}
+use Rattle.jj_diff.specs.Tokens.{IsCut, IsTokenizer, TokenEnds}
 use Rattle.jj_diff.specs.Inputs.{AreRanges, AreParts}
 use Rattle.jj_diff.specs.Hunks.{AreCuts, HasGap, IsMatch, IsTrimmedGap, AreSums}
 use Rattle.jj_diff.specs.Anchors.{IsAnchor}
-use Rattle.jj_diff.proofs.Slices.{length_range, range_of_range, cut_in_range}
+use Rattle.jj_diff.specs.Tokenizers.{length_range}
+use Rattle.jj_diff.proofs.Slices.{range_of_range}
 
 -- A gap between `at` and `starts`, its row, and an anchor in the row.
-module _ (t : Tokenizer) (inputs row : List (List ℕ)) (at starts gap_starts gap_ends from to : List ℕ)
+module _ (t : TokenEnds) (inputs row : List (List ℕ)) (at starts gap_starts gap_ends from to : List ℕ)
     (gap : IsTrimmedGap t inputs at starts gap_starts gap_ends) (is_row : AreParts inputs gap_starts gap_ends row)
     (anchor : IsAnchor t row from to) where
   part_len : (i : ℕ) → i < length inputs → length (get_or row i []) + get_or gap_starts i 0 ≡ get_or gap_ends i 0
@@ -30,10 +30,10 @@ module _ (t : Tokenizer) (inputs row : List (List ℕ)) (at starts gap_starts ga
       let mt : i < length row = omega (arith, is_row.len) in
       omega (arith, part_len i lt, gap.ranges.within i lt, anchor.ranges.within i mt)
 
-  cut_at : (n i : ℕ) → i < length inputs → n ≤ length (get_or row i []) → IsCut t (get_or row i []) n
+  cut_at : IsTokenizer t → (n i : ℕ) → i < length inputs → n ≤ length (get_or row i []) → IsCut t (get_or row i []) n
       → IsCut t (get_or inputs i []) (get_or gap_starts i 0 + n)
-  cut_at n i lt le cut =
-      cut_in_range t (get_or inputs i []) (get_or gap_starts i 0) (get_or gap_ends i 0) n (gap.ranges.within i lt)
+  cut_at law n i lt le cut =
+      law.inner (get_or inputs i []) (get_or gap_starts i 0) (get_or gap_ends i 0) n (gap.ranges.within i lt)
       (omega (arith, part_len i lt)) (gap.before.cuts i lt) (gap.cuts i lt)
       (subst (λ xs. IsCut t xs n) (is_row.parts i lt) cut)
 
@@ -57,14 +57,14 @@ module _ (t : Tokenizer) (inputs row : List (List ℕ)) (at starts gap_starts ga
       within = λ i lt. omega (arith, first_sums.sums_of i lt, anchor_first_within i lt);
     }
 
-    pub anchor_cuts : AreCuts t inputs first
-    anchor_cuts i lt =
+    pub anchor_cuts : IsTokenizer t → AreCuts t inputs first
+    anchor_cuts law i lt =
         let mt : i < length row = omega (arith, is_row.len) in
         subst (IsCut t (get_or inputs i [])) (sym (first_sums.sums_of i lt))
-        (cut_at (get_or from i 0) i lt (omega (arith, anchor.ranges.ordered i mt, anchor.ranges.within i mt)) (anchor.start_cuts i mt))
+        (cut_at law (get_or from i 0) i lt (omega (arith, anchor.ranges.ordered i mt, anchor.ranges.within i mt)) (anchor.start_cuts i mt))
 
-    pub anchor_match : (form : List ℕ → List ℕ) → IsMatch form t inputs first last
-    anchor_match form = record {
+    pub anchor_match : IsTokenizer t → (form : List ℕ → List ℕ) → IsMatch form t inputs first last
+    anchor_match law form = record {
       ranges = record {
         starts_len = first_sums.len;
         ends_len = last_sums.len;
@@ -73,7 +73,7 @@ module _ (t : Tokenizer) (inputs row : List (List ℕ)) (at starts gap_starts ga
       };
       cuts = λ i lt.
           let mt : i < length row = omega (arith, is_row.len) in
-          subst (IsCut t (get_or inputs i [])) (sym (last_sums.sums_of i lt)) (cut_at (get_or to i 0) i lt (anchor.ranges.within i mt) (anchor.end_cuts i mt));
+          subst (IsCut t (get_or inputs i [])) (sym (last_sums.sums_of i lt)) (cut_at law (get_or to i 0) i lt (anchor.ranges.within i mt) (anchor.end_cuts i mt));
       equal = λ i lt.
           let some : 0 < length inputs = omega arith in
           ap form (part_at i lt ∙ anchor.equal i (omega (arith, is_row.len)) ∙ sym (part_at 0 some));

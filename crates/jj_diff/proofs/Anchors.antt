@@ -5,8 +5,7 @@ use Rattle.std.proofs.lemmas.Grind.{common_steps, elements}
 use Rattle.std.specs.List.{range_with_len, slice_range}
 use Rattle.std.specs.Global.{Global}
 use Rattle.std.specs.declared.vec.Vec.{Vec}
-use Rattle.jj_diff.specs.declared.diff.tokens.Tokenizer.{Tokenizer}
-use Rattle.jj_diff.specs.Tokens.{IsCut, is_token_end}
+use Rattle.jj_diff.specs.Tokens.{IsCut, TokenEnds}
 use Rattle.jj_diff.specs.Inputs.{bytes_of}
 use Rattle.jj_diff.specs.Anchors.{token_offsets, token_at, StandsAt, StandsOnceAmong, StandsOnceInEach, HasFewTokens, IsCommonToken, AreOffsets, AreRowOffsets, AreTokenOffsets, AreFew, AreTokenRanges, IsTokenRange, IsAnchor, lists_of}
 use Rattle.jj_diff.proofs.Rows.{none, none_at, length-bytes_of}
@@ -51,19 +50,19 @@ passing_increases p a (suc n) = elim (p a) as (λ b. Increases (cond b (a ∷ pa
   | false ↦ passing_increases p (a + 1) n
 ]
 
-module _ (t : Tokenizer) (text : List ℕ) where
+module _ (t : TokenEnds) (text : List ℕ) where
   offsets_increase : Increases (token_offsets t text)
-  offsets_increase = increases_head 0 (passing (is_token_end t text) 1 (length text))
-      (λ k lt. omega (arith, (passing_all (is_token_end t text) 1 (length text) k lt).1))
-      (passing_increases (is_token_end t text) 1 (length text))
+  offsets_increase = increases_head 0 (passing (t text) 1 (length text))
+      (λ k lt. omega (arith, (passing_all (t text) 1 (length text) k lt).1))
+      (passing_increases (t text) 1 (length text))
 
   offset_cut : (k : ℕ) → k < length (token_offsets t text) → IsCut t text (get_or (token_offsets t text) k 0)
   offset_cut zero lt = inl refl
-  offset_cut (suc k) lt = inr (passing_all (is_token_end t text) 1 (length text) k (omega arith)).0
+  offset_cut (suc k) lt = inr (passing_all (t text) 1 (length text) k (omega arith)).0
 
   offset_within : (k : ℕ) → k < length (token_offsets t text) → get_or (token_offsets t text) k 0 ≤ length text
   offset_within zero lt = omega arith
-  offset_within (suc k) lt = omega (arith, (passing_all (is_token_end t text) 1 (length text) k (omega arith)).2)
+  offset_within (suc k) lt = omega (arith, (passing_all (t text) 1 (length text) k (omega arith)).2)
 
   offset_next : (k : ℕ) → k + 1 < length (token_offsets t text)
       → get_or (token_offsets t text) k 0 < get_or (token_offsets t text) (k + 1) 0
@@ -79,7 +78,7 @@ module _ (t : Tokenizer) (text : List ℕ) where
   }
 
 -- the offsets of the tokens of each part
-pub row_offsets : (t : Tokenizer) (row offsets : List (List ℕ)) → AreTokenOffsets t row offsets → AreRowOffsets row offsets
+pub row_offsets : (t : TokenEnds) (row offsets : List (List ℕ)) → AreTokenOffsets t row offsets → AreRowOffsets row offsets
 row_offsets t row offsets tokens = record {
   len = tokens.len;
   each = λ i lt. subst (AreOffsets (get_or row i [])) (sym (tokens.each i lt)) (are_offsets t (get_or row i []));
@@ -217,7 +216,7 @@ ranges_more row offsets token starts ends starts' ends' start end n k e f starts
     )
 
 -- the ranges of a token that occurs once in each part
-pub anchor_ranges : (t : Tokenizer) (row offsets : List (List ℕ)) (token starts ends : List ℕ) → 0 < length row
+pub anchor_ranges : (t : TokenEnds) (row offsets : List (List ℕ)) (token starts ends : List ℕ) → 0 < length row
     → AreTokenOffsets t row offsets → AreTokenRanges row offsets token starts ends → IsAnchor t row starts ends
 anchor_ranges t row offsets token starts ends some tokens found =
     let at : (i : ℕ) → i < length row → (k : ℕ) × (k + 1 < length (token_offsets t (get_or row i [])))
@@ -248,18 +247,18 @@ anchor_ranges t row offsets token starts ends some tokens found =
     }
 
 -- a common token is once between the offsets of each part
-common_each : (t : Tokenizer) (row offsets : List (List ℕ)) (token : List ℕ) → AreTokenOffsets t row offsets
+common_each : (t : TokenEnds) (row offsets : List (List ℕ)) (token : List ℕ) → AreTokenOffsets t row offsets
     → IsCommonToken t row token → StandsOnceInEach row offsets token
 common_each t row offsets token tokens common i lt =
     subst (λ os. StandsOnceAmong (get_or row i []) os token) (sym (tokens.each i lt)) (common.once i lt)
 
-pub no_few : (t : Tokenizer) (row offsets : List (List ℕ)) → AreTokenOffsets t row offsets → ¬ (AreFew offsets) → ¬ (HasFewTokens t row)
+pub no_few : (t : TokenEnds) (row offsets : List (List ℕ)) → AreTokenOffsets t row offsets → ¬ (AreFew offsets) → ¬ (HasFewTokens t row)
 no_few t row offsets tokens many few = many (λ i lt.
     let mt : i < length row = omega (arith, tokens.len) in
     omega (arith, few i mt, ap length (tokens.each i mt)))
 
 -- no token of the first part occurs once in each
-no_token : (t : Tokenizer) (row offsets : List (List ℕ)) → AreTokenOffsets t row offsets
+no_token : (t : TokenEnds) (row offsets : List (List ℕ)) → AreTokenOffsets t row offsets
     → ((k : ℕ) → k + 1 < length (get_or offsets 0 [])
     → ¬ (StandsOnceInEach row offsets (token_at (get_or row 0 []) (get_or offsets 0 []) k)))
     → (token : List ℕ) → ¬ (IsCommonToken t row token)
@@ -269,7 +268,7 @@ no_token t row offsets tokens absent token common =
     absent first.0 first.1.0 (subst (StandsOnceInEach row offsets) (sym first.1.1) each)
 
 -- no token of the first part, as it was read, occurs once in each
-pub no_token_read : (t : Tokenizer) (refs : List (Bor (List ℕ))) (vs : List (Vec ℕ Global)) (xs : List ℕ)
+pub no_token_read : (t : TokenEnds) (refs : List (Bor (List ℕ))) (vs : List (Vec ℕ Global)) (xs : List ℕ)
     → AreTokenOffsets t (bytes_of refs) (lists_of vs) → xs ≡ get_or (lists_of vs) 0 []
     → ((k : ℕ) → k + 1 < length xs → ¬ (StandsOnceInEach (bytes_of refs) (lists_of vs) (token_at (get_or refs 0 none).now xs k)))
     → (token : List ℕ) → ¬ (IsCommonToken t (bytes_of refs) token)

@@ -3,10 +3,9 @@ use Rattle.std.proofs.Common.{◌≡◌, ◌≢◌, ℕ, ◌+◌, ◌-◌, ◌<�
 use Rattle.std.proofs.lemmas.Bool.{cases_lt}
 use Rattle.std.proofs.lemmas.List.{take_more_same, take-take, get_or-take, get_or-drop, drop_more, drop-drop}
 use Rattle.jj_diff.specs.Inputs.{bytes_of}
-use Rattle.jj_diff.specs.declared.diff.tokens.Tokenizer.{Tokenizer}
-use Rattle.jj_diff.specs.Tokens.{IsCut}
+use Rattle.jj_diff.specs.Tokens.{IsCut, IsTokenizer, TokenEnds}
 use Rattle.jj_diff.specs.Ends.{suffix, IsEqualStart, IsEqualStartOf, IsEqualEnd, IsEqualEndOf, IsWithin, AreStartCuts, AreEndCuts, IsCommonStart, IsCommonEnd}
-use Rattle.jj_diff.proofs.Rows.{none, none_at, length-bytes_of, cut_whole}
+use Rattle.jj_diff.proofs.Rows.{none, none_at, length-bytes_of}
 
 -- one more equal byte
 pub start_more : (xs ys : List ℕ) (i : ℕ) → i < length xs → i < length ys → take i xs ≡ take i ys
@@ -158,19 +157,19 @@ module _ (refs : List (Bor (List ℕ))) where
   end_all start n same = subst (λ k. IsEqualEndOf (bytes_of refs) start k n) (sym (length-bytes_of refs)) same
 
   -- the cut of one input
-  pub start_cut_at : (t : Tokenizer) (n k : ℕ) → k < length refs → AreStartCuts t (bytes_of refs) n → IsCut t (get_or refs k none).now n
+  pub start_cut_at : (t : TokenEnds) (n k : ℕ) → k < length refs → AreStartCuts t (bytes_of refs) n → IsCut t (get_or refs k none).now n
   start_cut_at t n k lt are_cuts = subst (λ xs. IsCut t xs n) (none_at refs k) (are_cuts k (omega (arith, length-bytes_of refs)))
 
-  pub end_cut_at : (t : Tokenizer) (n k : ℕ) → k < length refs → AreEndCuts t (bytes_of refs) n
+  pub end_cut_at : (t : TokenEnds) (n k : ℕ) → k < length refs → AreEndCuts t (bytes_of refs) n
       → IsCut t (get_or refs k none).now (length (get_or refs k none).now - n)
   end_cut_at t n k lt are_cuts = subst (λ xs. IsCut t xs (length xs - n)) (none_at refs k) (are_cuts k (omega (arith, length-bytes_of refs)))
 
-  pub start_cut_more : (t : Tokenizer) (n k : ℕ) → ((i : ℕ) → i < k → IsCut t (get_or (bytes_of refs) i []) n)
+  pub start_cut_more : (t : TokenEnds) (n k : ℕ) → ((i : ℕ) → i < k → IsCut t (get_or (bytes_of refs) i []) n)
       → IsCut t (get_or refs k none).now n → (i : ℕ) → i < k + 1 → IsCut t (get_or (bytes_of refs) i []) n
   start_cut_more t n k before here = below_more (λ i. IsCut t (get_or (bytes_of refs) i []) n) k before
       (subst (λ xs. IsCut t xs n) (sym (none_at refs k)) here)
 
-  pub end_cut_more : (t : Tokenizer) (n k : ℕ)
+  pub end_cut_more : (t : TokenEnds) (n k : ℕ)
       → ((i : ℕ) → i < k → IsCut t (get_or (bytes_of refs) i []) (length (get_or (bytes_of refs) i []) - n))
       → IsCut t (get_or refs k none).now (length (get_or refs k none).now - n)
       → (i : ℕ) → i < k + 1 → IsCut t (get_or (bytes_of refs) i []) (length (get_or (bytes_of refs) i []) - n)
@@ -191,27 +190,27 @@ cut_before P most back n lt none le cut = elim (cases_lt (n + back) most) [
   | inr above ↦ let e : n ≡ most - back = omega arith in absurd (none (subst P e cut))
 ]
 
-pub start_cut_before : (t : Tokenizer) (inputs : List (List ℕ)) (most back n : ℕ) → back < most
+pub start_cut_before : (t : TokenEnds) (inputs : List (List ℕ)) (most back n : ℕ) → back < most
     → ¬ (AreStartCuts t inputs (most - back)) → n + back ≤ most → AreStartCuts t inputs n → n + (back + 1) ≤ most
 start_cut_before t inputs = cut_before (AreStartCuts t inputs)
 
-pub end_cut_before : (t : Tokenizer) (inputs : List (List ℕ)) (most back n : ℕ) → back < most
+pub end_cut_before : (t : TokenEnds) (inputs : List (List ℕ)) (most back n : ℕ) → back < most
     → ¬ (AreEndCuts t inputs (most - back)) → n + back ≤ most → AreEndCuts t inputs n → n + (back + 1) ≤ most
 end_cut_before t inputs = cut_before (AreEndCuts t inputs)
 
 -- there is a cut before the first byte, and after the last
-pub start_cut_none : (t : Tokenizer) (inputs : List (List ℕ)) → AreStartCuts t inputs 0
+pub start_cut_none : (t : TokenEnds) (inputs : List (List ℕ)) → AreStartCuts t inputs 0
 start_cut_none t inputs i lt = inl refl
 
-pub end_cut_none : (t : Tokenizer) (inputs : List (List ℕ)) → AreEndCuts t inputs 0
-end_cut_none t inputs i lt =
+pub end_cut_none : (t : TokenEnds) (law : IsTokenizer t) (inputs : List (List ℕ)) → AreEndCuts t inputs 0
+end_cut_none t law inputs i lt =
     let e : length (get_or inputs i []) ≡ length (get_or inputs i []) - 0 = omega arith in
-    subst (IsCut t (get_or inputs i [])) e (cut_whole t (get_or inputs i []))
+    subst (IsCut t (get_or inputs i [])) e (law.whole (get_or inputs i []))
 
 pub ruleset cut_steps = (start_cut_before, end_cut_before, start_cut_none, end_cut_none)
 
 -- equal starts that are whole tokens
-pub common_start_of : (t : Tokenizer) (inputs : List (List ℕ)) (most n : ℕ) → 0 < length inputs
+pub common_start_of : (t : TokenEnds) (inputs : List (List ℕ)) (most n : ℕ) → 0 < length inputs
     → IsEqualStart inputs most → n ≤ most → AreStartCuts t inputs n → IsCommonStart t inputs n
 common_start_of t inputs most n some same le are_cuts = record {
   some = some;
@@ -220,10 +219,10 @@ common_start_of t inputs most n some same le are_cuts = record {
   cuts = are_cuts;
 }
 
-pub equal_start_of : (t : Tokenizer) (inputs : List (List ℕ)) (n : ℕ) → IsCommonStart t inputs n → IsEqualStart inputs n
+pub equal_start_of : (t : TokenEnds) (inputs : List (List ℕ)) (n : ℕ) → IsCommonStart t inputs n → IsEqualStart inputs n
 equal_start_of t inputs n common = record { within = common.within; equal = common.equal }
 
-pub common_end_of : (t : Tokenizer) (inputs : List (List ℕ)) (start most n : ℕ) → 0 < length inputs
+pub common_end_of : (t : TokenEnds) (inputs : List (List ℕ)) (start most n : ℕ) → 0 < length inputs
     → IsEqualEnd inputs start most → n ≤ most → AreEndCuts t inputs n → IsCommonEnd t inputs start n
 common_end_of t inputs start most n some same le are_cuts = record {
   some = some;
@@ -233,7 +232,7 @@ common_end_of t inputs start most n some same le are_cuts = record {
   cuts = are_cuts;
 }
 
-pub equal_end_of : (t : Tokenizer) (inputs : List (List ℕ)) (start n : ℕ) → IsCommonEnd t inputs start n → IsEqualEnd inputs start n
+pub equal_end_of : (t : TokenEnds) (inputs : List (List ℕ)) (start n : ℕ) → IsCommonEnd t inputs start n → IsEqualEnd inputs start n
 equal_end_of t inputs start n common = record { within = common.within; equal = common.equal }
 
 pub ruleset common_steps = (common_start_of, equal_start_of, common_end_of, equal_end_of)

@@ -3,12 +3,12 @@ use Rattle.std.proofs.Common.{◌≡◌, ℕ, ◌+◌, ◌-◌, ◌<◌, ◌≤�
 use Rattle.std.proofs.lemmas.List.{take-take, take_all}
 use Rattle.std.proofs.Math.Seq.{take-add}
 use Rattle.std.specs.List.{slice_range}
-use Rattle.jj_diff.specs.declared.diff.tokens.Tokenizer.{Tokenizer}
-use Rattle.jj_diff.specs.Tokens.{IsCut}
+use Rattle.jj_diff.specs.Tokens.{IsCut, IsTokenizer, TokenEnds}
 use Rattle.jj_diff.specs.Inputs.{AreRanges, AreParts}
 use Rattle.jj_diff.specs.Ends.{suffix, IsCommonStart, IsCommonEnd}
 use Rattle.jj_diff.specs.Hunks.{AreCuts, HasTrimmedEnds, IsTrimmedGap, AreMoved, AreMovedBack}
-use Rattle.jj_diff.proofs.Slices.{length_range, range_of_range, range_join, range_start, range_end, cut_in_range}
+use Rattle.jj_diff.specs.Tokenizers.{length_range}
+use Rattle.jj_diff.proofs.Slices.{range_of_range, range_join, range_start, range_end}
 
 -- One part xs of a gap, its range from p to d, and what is equal at the ends of that range.
 module _ (xs : List ℕ) (p d : ℕ) where
@@ -36,7 +36,7 @@ module _ (xs : List ℕ) (p d : ℕ) where
       ∙ ap (λ ys. suffix n (slice_range xs p d) ++ ys) (sym (suffix_range e (omega arith)))
 
 -- A row of parts of which p bytes at the start and e at the end are equal, and no more.
-module _ (t : Tokenizer) (row middle : List (List ℕ)) (p e : ℕ) (start : IsCommonStart t row p) (end : IsCommonEnd t row p e)
+module _ (t : TokenEnds) (law : IsTokenizer t) (row middle : List (List ℕ)) (p e : ℕ) (start : IsCommonStart t row p) (end : IsCommonEnd t row p e)
     (len : length middle ≡ length row)
     (parts : (i : ℕ) → i < length row → get_or middle i [] ≡ slice_range (get_or row i []) p (length (get_or row i []) - e)) where
   middle_len : (i : ℕ) → i < length row → length (get_or middle i []) + p + e ≡ length (get_or row i [])
@@ -58,7 +58,7 @@ module _ (t : Tokenizer) (row middle : List (List ℕ)) (p e : ℕ) (start : IsC
         ∙ sym (start_of (get_or row 0 []) p (length (get_or row 0 []) - e) n le0);
     cuts = λ i lt.
         let mt : i < length middle = omega arith in
-        cut_in_range t (get_or row i []) p (length (get_or row i []) - e) n (omega arith)
+        law.inner (get_or row i []) p (length (get_or row i []) - e) n (omega arith)
         (omega (arith, middle_len i lt, common.within i mt)) (start.cuts i lt) (end.cuts i lt)
         (subst (λ xs. IsCut t xs n) (parts i lt) (common.cuts i mt));
   }
@@ -83,7 +83,7 @@ module _ (t : Tokenizer) (row middle : List (List ℕ)) (p e : ℕ) (start : IsC
         let mt : i < length middle = omega arith in
         let k : p + (length (get_or middle i []) - n) ≡ length (get_or row i []) - (e + n) = omega (arith, middle_len i lt, common.within i mt) in
         subst (IsCut t (get_or row i [])) k (
-        cut_in_range t (get_or row i []) p (length (get_or row i []) - e) (length (get_or middle i []) - n) (omega arith)
+        law.inner (get_or row i []) p (length (get_or row i []) - e) (length (get_or middle i []) - n) (omega arith)
         (omega (arith, middle_len i lt)) (start.cuts i lt) (end.cuts i lt)
         (subst (λ xs. IsCut t xs (length (get_or middle i []) - n)) (parts i lt) (common.cuts i mt)));
   }
@@ -95,7 +95,7 @@ module _ (t : Tokenizer) (row middle : List (List ℕ)) (p e : ℕ) (start : IsC
   }
 
 -- The gap of which `row` is the part of each input.
-module _ (t : Tokenizer) (inputs row : List (List ℕ)) (starts ends first last : List ℕ) (p e : ℕ) where
+module _ (t : TokenEnds) (inputs row : List (List ℕ)) (starts ends first last : List ℕ) (p e : ℕ) where
   pub gap_some : 0 < length inputs → AreParts inputs starts ends row → 0 < length row
   gap_some some is_row = omega (arith, is_row.len)
 
@@ -135,23 +135,23 @@ module _ (t : Tokenizer) (inputs row : List (List ℕ)) (starts ends first last 
       (omega (arith, part_len ranges is_row i lt, end.within i (omega (arith, is_row.len)))) (ranges.within i lt))
       ∙ ap (suffix e) (sym (is_row.parts i lt))
 
-  last_cut : (i : ℕ) → i < length inputs → AreRanges inputs starts ends → AreCuts t inputs starts → AreCuts t inputs ends
+  last_cut : IsTokenizer t → (i : ℕ) → i < length inputs → AreRanges inputs starts ends → AreCuts t inputs starts → AreCuts t inputs ends
       → AreParts inputs starts ends row → IsCommonEnd t row p e → AreMovedBack inputs ends e last
       → IsCut t (get_or inputs i []) (get_or last i 0)
-  last_cut i lt ranges cut_starts cut_ends is_row end back =
+  last_cut law i lt ranges cut_starts cut_ends is_row end back =
       let mt : i < length row = omega (arith, is_row.len) in
       let n : ℕ = length (get_or row i []) - e in
       let a : get_or starts i 0 + n ≡ get_or last i 0 = omega (arith, back.moved i lt, part_len ranges is_row i lt, end.within i mt) in
       subst (IsCut t (get_or inputs i [])) a (
-      cut_in_range t (get_or inputs i []) (get_or starts i 0) (get_or ends i 0) n (ranges.within i lt)
+      law.inner (get_or inputs i []) (get_or starts i 0) (get_or ends i 0) n (ranges.within i lt)
       (omega (arith, part_len ranges is_row i lt)) (cut_starts i lt) (cut_ends i lt)
       (subst (λ xs. IsCut t xs n) (is_row.parts i lt) (end.cuts i mt)))
 
-  pub gap_trimmed : AreRanges inputs starts ends → AreCuts t inputs starts → AreCuts t inputs ends → AreParts inputs starts ends row
+  pub gap_trimmed : IsTokenizer t → AreRanges inputs starts ends → AreCuts t inputs starts → AreCuts t inputs ends → AreParts inputs starts ends row
       → IsCommonStart t row p → ((n : ℕ) → IsCommonStart t row n → n ≤ p)
       → IsCommonEnd t row p e → ((n : ℕ) → IsCommonEnd t row p n → n ≤ e)
       → AreMoved inputs starts p first → AreMovedBack inputs ends e last → IsTrimmedGap t inputs starts ends first last
-  gap_trimmed ranges cut_starts cut_ends is_row start longest_start end longest_end to back =
+  gap_trimmed law ranges cut_starts cut_ends is_row start longest_start end longest_end to back =
       let row_lt : (i : ℕ) → i < length inputs → i < length row = λ i lt. omega (arith, is_row.len) in
       let len : (i : ℕ) → i < length inputs → length (get_or row i []) + get_or starts i 0 ≡ get_or ends i 0 = part_len ranges is_row in
       let at_last : (i : ℕ) → i < length inputs → get_or last i 0 ≡ get_or starts i 0 + (length (get_or row i []) - e) =
@@ -165,7 +165,7 @@ module _ (t : Tokenizer) (inputs row : List (List ℕ)) (starts ends first last 
             within = λ i lt. omega (arith, to.moved i lt, first_within ranges is_row start i lt);
           };
           cuts = λ i lt. subst (IsCut t (get_or inputs i [])) (sym (to.moved i lt)) (
-              cut_in_range t (get_or inputs i []) (get_or starts i 0) (get_or ends i 0) p (ranges.within i lt)
+              law.inner (get_or inputs i []) (get_or starts i 0) (get_or ends i 0) p (ranges.within i lt)
               (omega (arith, len i lt, start.within i (row_lt i lt))) (cut_starts i lt) (cut_ends i lt)
               (subst (λ xs. IsCut t xs p) (is_row.parts i lt) (start.cuts i (row_lt i lt))));
           equal = λ i lt.
@@ -178,7 +178,7 @@ module _ (t : Tokenizer) (inputs row : List (List ℕ)) (starts ends first last 
           ordered = λ i lt. omega (arith, to.moved i lt, at_last i lt, end.within i (row_lt i lt));
           within = λ i lt. omega (arith, back.moved i lt, ranges.within i lt);
         };
-        cuts = λ i lt. last_cut i lt ranges cut_starts cut_ends is_row end back;
+        cuts = λ i lt. last_cut law i lt ranges cut_starts cut_ends is_row end back;
         after = record {
           ranges = record {
             starts_len = back.len;
@@ -192,7 +192,7 @@ module _ (t : Tokenizer) (inputs row : List (List ℕ)) (starts ends first last 
               end_part i lt ranges is_row end back ∙ end.equal i (row_lt i lt) ∙ sym (end_part 0 some ranges is_row end back);
         };
         trimmed = λ middle is_middle.
-            trimmed_middle t row middle p e start end (is_middle.len ∙ sym is_row.len)
+            trimmed_middle t law row middle p e start end (is_middle.len ∙ sym is_row.len)
             (λ i lt.
             let mt : i < length inputs = omega (arith, is_row.len) in
             is_middle.parts i mt

@@ -7,12 +7,11 @@ use Rattle.std.proofs.lemmas.Grind.{common_steps, elements}
 use Rattle.std.specs.List.{slice_range}
 use Rattle.jj_diff.specs.declared.diff.hunks.DiffHunk.{DiffHunk}
 use Rattle.jj_diff.specs.declared.diff.hunks.DiffHunkKind.TheVariants.{Matching, Different}
-use Rattle.jj_diff.specs.declared.diff.tokens.Tokenizer.{Tokenizer}
-use Rattle.jj_diff.specs.Tokens.{IsCut}
+use Rattle.jj_diff.specs.Tokens.{IsCut, IsTokenizer, TokenEnds}
 use Rattle.jj_diff.specs.Inputs.{bytes_of, AreRanges, AreEqual, AreEqualBy, IsEmpty}
 use Rattle.jj_diff.specs.Ends.{suffix, IsCommonStart, IsCommonEnd, IsWithin}
 use Rattle.jj_diff.specs.Hunks.{row_of, kind_len, matched_len, matched_start, matched_end, IsPrefixDiff, IsDiffBy, AllMatch, AreTrimmed, IsTrimmed, StartsWith, AreCuts, AreStarts, AreLimits, IsMatch, IsProgress, MatchesEnds, IsHunkBy}
-use Rattle.jj_diff.proofs.Rows.{take-slice_range, prefix_whole, cut_whole, no_cuts, length-bytes_of, none, none_at}
+use Rattle.jj_diff.proofs.Rows.{take-slice_range, prefix_whole, no_cuts, length-bytes_of, none, none_at}
 
 -- the last hunk is what matches at the end
 pub matched_end_push : (hs : List DiffHunk) (h : DiffHunk) → matched_end (hs ++ h ∷ []) ≡ matched_len h
@@ -37,7 +36,7 @@ starts_of inputs n m starts f e = record {
   starts = λ i lt. grind (arith, common_steps, elements);
 }
 
-module _ (form : List ℕ → List ℕ) (t : Tokenizer) (inputs : List (List ℕ)) where
+module _ (form : List ℕ → List ℕ) (t : TokenEnds) (inputs : List (List ℕ)) where
   start_part : (i n : ℕ) (from at : List ℕ) → AreStarts inputs 0 from → AreStarts inputs n at → i < length inputs
       → slice_range (get_or inputs i []) (get_or from i 0) (get_or at i 0) ≡ take n (get_or inputs i [])
   start_part i n from at zeros starts lt =
@@ -93,9 +92,9 @@ module _ (form : List ℕ → List ℕ) (t : Tokenizer) (inputs : List (List ℕ
       ∙ ap (λ k. drop k (get_or inputs i [])) (from.limits i lt)
 
   -- the common end
-  pub match_end : (n : ℕ) (starts ends : List ℕ) → IsCommonEnd t inputs 0 n → AreLimits inputs n starts → AreLimits inputs 0 ends
+  pub match_end : IsTokenizer t → (n : ℕ) (starts ends : List ℕ) → IsCommonEnd t inputs 0 n → AreLimits inputs n starts → AreLimits inputs 0 ends
       → IsMatch form t inputs starts ends
-  match_end n starts ends common from to = record {
+  match_end law n starts ends common from to = record {
     ranges = record {
       starts_len = from.len;
       ends_len = to.len;
@@ -104,7 +103,7 @@ module _ (form : List ℕ → List ℕ) (t : Tokenizer) (inputs : List (List ℕ
     };
     cuts = λ i lt.
         let e : length (get_or inputs i []) ≡ get_or ends i 0 = omega (arith, to.limits i lt) in
-        subst (IsCut t (get_or inputs i [])) e (cut_whole t (get_or inputs i []));
+        subst (IsCut t (get_or inputs i [])) e (law.whole (get_or inputs i []));
     equal = λ i lt. ap form (
         end_part i n starts ends from to lt ∙ common.equal i lt ∙ sym (end_part 0 n starts ends from to common.some));
   }
@@ -123,11 +122,11 @@ module _ (form : List ℕ → List ℕ) (t : Tokenizer) (inputs : List (List ℕ
       → IsDiffBy form t inputs hs
   whole_at hs ends to before = prefix_whole form t inputs hs ends (λ i lt. omega (arith, to.limits i lt)) before
 
-pub limit_cuts : (t : Tokenizer) (inputs : List (List ℕ)) (start n : ℕ) (limits : List ℕ) → IsCommonEnd t inputs start n
+pub limit_cuts : (t : TokenEnds) (inputs : List (List ℕ)) (start n : ℕ) (limits : List ℕ) → IsCommonEnd t inputs start n
     → AreLimits inputs n limits → AreCuts t inputs limits
 limit_cuts t inputs start n limits common from i lt = subst (IsCut t (get_or inputs i [])) (sym (from.limits i lt)) (common.cuts i lt)
 
-pub common_end_zero : (t : Tokenizer) (inputs : List (List ℕ)) (start n : ℕ) → IsCommonEnd t inputs start n → IsCommonEnd t inputs 0 n
+pub common_end_zero : (t : TokenEnds) (inputs : List (List ℕ)) (start n : ℕ) → IsCommonEnd t inputs start n → IsCommonEnd t inputs 0 n
 common_end_zero t inputs start n common = record {
   some = common.some;
   within = λ i lt. omega (arith, common.within i lt);
@@ -135,7 +134,7 @@ common_end_zero t inputs start n common = record {
   cuts = common.cuts;
 }
 
-pub start_within : (t : Tokenizer) (inputs : List (List ℕ)) (n : ℕ) → IsCommonStart t inputs n → IsWithin inputs n
+pub start_within : (t : TokenEnds) (inputs : List (List ℕ)) (n : ℕ) → IsCommonStart t inputs n → IsWithin inputs n
 start_within t inputs n common = common.within
 
 push_before : (xs : List ℕ) (x n i : ℕ) → length xs ≡ n → i < n → get_or (xs ++ x ∷ []) i 0 ≡ get_or xs i 0
@@ -174,20 +173,20 @@ differs : Matching ≡ Different → ⊥
 differs e = cc
 
 -- inputs without a hunk that differs
-pub trimmed_all : (t : Tokenizer) (hs : List DiffHunk) → AllMatch hs → AreTrimmed t hs
+pub trimmed_all : (t : TokenEnds) (hs : List DiffHunk) → AllMatch hs → AreTrimmed t hs
 trimmed_all t hs all k d lt = λ e. absurd (differs (sym (all k d lt) ∙ e))
 
 pub equal_by : (form : List ℕ → List ℕ) (row : List (List ℕ)) → AreEqual row → AreEqualBy form row
 equal_by form row same i lt = ap form (same i lt)
 
 -- the whole inputs as no hunk or one
-pub ends_none : (t : Tokenizer) (inputs : List (List ℕ)) → IsEmpty inputs → MatchesEnds t inputs []
+pub ends_none : (t : TokenEnds) (inputs : List (List ℕ)) → IsEmpty inputs → MatchesEnds t inputs []
 ends_none t inputs empty = record {
   start = λ n common. omega (arith, common.within 0 common.some, ap length (empty 0 common.some));
   end = λ n common. omega (arith, common.within 0 common.some, ap length (empty 0 common.some));
 }
 
-pub ends_one : (t : Tokenizer) (inputs : List (List ℕ)) (h : DiffHunk) → row_of h ≡ inputs → h.kind ≡ Matching
+pub ends_one : (t : TokenEnds) (inputs : List (List ℕ)) (h : DiffHunk) → row_of h ≡ inputs → h.kind ≡ Matching
     → MatchesEnds t inputs (h ∷ [])
 ends_one t inputs h e kind =
     let len : matched_len h ≡ length (get_or inputs 0 []) = matched_len_of h kind ∙ ap (λ row. length (get_or row 0 [])) e in
@@ -196,7 +195,7 @@ ends_one t inputs h e kind =
       end = λ n common. omega (arith, common.within 0 common.some, len);
     }
 
-pub matches_ends : (t : Tokenizer) (inputs : List (List ℕ)) (hs : List DiffHunk) (p n : ℕ)
+pub matches_ends : (t : TokenEnds) (inputs : List (List ℕ)) (hs : List DiffHunk) (p n : ℕ)
     → p ≤ matched_start hs → ((m : ℕ) → IsCommonStart t inputs m → m ≤ p)
     → n ≤ matched_end hs → ((m : ℕ) → IsCommonEnd t inputs p m → m ≤ n) → MatchesEnds t inputs hs
 matches_ends t inputs hs p n starts longest_start ends longest_end = record {

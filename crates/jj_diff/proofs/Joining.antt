@@ -2,17 +2,17 @@
 use Rattle.std.proofs.Common.{◌≡◌, ℕ, suc, zero, ◌+◌, ◌-◌, ◌<◌, ◌≤◌, List, [], ◌∷◌, ◌++◌, length, map, take, drop, get_or, reverse, Bor, refl, ap, sym, ◌∙◌, subst, arith, append_assoc, append-nil, length-append, length-drop, All}
 use Rattle.std.proofs.lemmas.List.{ext_get_or, take_more, take_all, drop_more, reverse-append, take-append-drop, get_or-drop, length-take-le}
 use Rattle.std.proofs.Math.Seq.{drop-append_seam, take-append_seam}
+use Rattle.jj_diff.specs.Tokens.{TokenEnds}
 use Rattle.jj_diff.specs.declared.diff.hunks.DiffHunk.{DiffHunk}
-use Rattle.jj_diff.specs.declared.diff.hunks.DiffHunkKind.TheVariants.{Matching, Different}
-use Rattle.jj_diff.specs.declared.diff.tokens.Tokenizer.{Tokenizer}
-use Rattle.jj_diff.specs.Inputs.{bytes_of, side}
+use Rattle.jj_diff.specs.declared.diff.hunks.DiffHunkKind.TheVariants.{Matching}
+use Rattle.jj_diff.specs.Inputs.{side}
 use Rattle.jj_diff.specs.Hunks.{row_of, AreLimits}
 use Rattle.jj_diff.specs.Refined.{View, view_of, view_side, append_rows, join_kinds, join_first, joined, Each, AreAdjacent, AreHunksOf, AreRefinements, IsRefinement, StartAt}
 use Rattle.jj_diff.proofs.Views.{get-append_rows, length-append_rows, view_side_of, side_joined, each_joined, joins_width, each_of_all}
 use Rattle.jj_diff.proofs.HunkRanges.{side_len, len_more}
 use Rattle.jj_diff.proofs.Rows.{length-bytes_of}
 
-refinements-push : (form : List ℕ → List ℕ) (t : Tokenizer) (hs : List DiffHunk) (h : DiffHunk) (refined parts : List DiffHunk)
+refinements-push : (form : List ℕ → List ℕ) (t : TokenEnds) (hs : List DiffHunk) (h : DiffHunk) (refined parts : List DiffHunk)
     → AreRefinements form t hs refined → IsRefinement form t h parts
     → AreRefinements form t (hs ++ h ∷ []) (refined ++ parts)
 refinements-push form t [] h refined parts none one =
@@ -26,7 +26,7 @@ refinements-push form t (g ∷ hs) h refined parts before one = (
 )
 
 -- one more hunk is refined
-pub refinements_more : (form : List ℕ → List ℕ) (t : Tokenizer) (hs : List DiffHunk) (i : ℕ) (h : DiffHunk) (refined parts : List DiffHunk)
+pub refinements_more : (form : List ℕ → List ℕ) (t : TokenEnds) (hs : List DiffHunk) (i : ℕ) (h : DiffHunk) (refined parts : List DiffHunk)
     → i < length hs → h ≡ get_or hs i h → AreRefinements form t (take i hs) refined → IsRefinement form t h parts
     → AreRefinements form t (take (i + 1) hs) (refined ++ parts)
 refinements_more form t hs i h refined parts lt e before one =

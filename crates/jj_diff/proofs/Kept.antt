@@ -1,10 +1,9 @@
 -- A hunk that matched before a refinement is part of one that matches after it.
-use Rattle.std.proofs.Common.{◌≡◌, ℕ, suc, zero, ◌+◌, ◌<◌, ◌≤◌, List, [], ◌∷◌, ◌++◌, length, map, get_or, refl, ap, sym, ◌∙◌, subst, arith, inl, inr, length-append, append_assoc, append-nil, All}
+use Rattle.std.proofs.Common.{◌≡◌, ℕ, zero, ◌+◌, ◌<◌, ◌≤◌, List, [], ◌∷◌, ◌++◌, length, map, get_or, refl, ap, sym, ◌∙◌, subst, arith, inl, inr, length-append, append_assoc, append-nil, All}
+use Rattle.jj_diff.specs.Tokens.{TokenEnds, is_line_end, is_word_end}
 use Rattle.jj_diff.specs.declared.diff.hunks.DiffHunk.{DiffHunk}
 use Rattle.jj_diff.specs.declared.diff.hunks.DiffHunkKind.{DiffHunkKind}
 use Rattle.jj_diff.specs.declared.diff.hunks.DiffHunkKind.TheVariants.{Matching, Different}
-use Rattle.jj_diff.specs.declared.diff.tokens.Tokenizer.{Tokenizer}
-use Rattle.jj_diff.specs.declared.diff.tokens.Tokenizer.TheVariants.{Lines, Words}
 use Rattle.jj_diff.specs.Inputs.{side}
 use Rattle.jj_diff.specs.Ends.{IsCommonEnd}
 use Rattle.jj_diff.specs.Hunks.{row_of, kind_len, matched_start, matched_end, MatchesEnds, IsDiff, AreTrimmed}
@@ -148,7 +147,7 @@ record Among (n : ℕ) (before : List DiffHunk) (h : DiffHunk) (parts : List Dif
   split : map view_of parts ≡ earlier ++ view_of h ∷ later
   place : (i : ℕ) → i < n → view_side i earlier ≡ side i (map row_of before)
 
-among : (form : List ℕ → List ℕ) (t : Tokenizer) (n : ℕ) (before : List DiffHunk) (h : DiffHunk) (after parts : List DiffHunk)
+among : (form : List ℕ → List ℕ) (t : TokenEnds) (n : ℕ) (before : List DiffHunk) (h : DiffHunk) (after parts : List DiffHunk)
     → AreRefinements form t (before ++ h ∷ after) parts → All (λ g. length (row_of g) ≡ n) (before ++ h ∷ after)
     → h.kind ≡ Matching → Among n before h parts
 among form t n [] h after parts r all e = record {
@@ -201,7 +200,7 @@ split_hunks (h ∷ hs) (b ∷ before) v after e =
       view = more.view;
     }
 
-module _ (form : List ℕ → List ℕ) (t : Tokenizer) (n : ℕ) where
+module _ (form : List ℕ → List ℕ) (t : TokenEnds) (n : ℕ) where
   stays : (before after : List DiffHunk) (h : DiffHunk) (refined : List DiffHunk)
       → IsRefined form t (before ++ h ∷ after) refined → All (λ g. length (row_of g) ≡ n) (before ++ h ∷ after)
       → h.kind ≡ Matching → StaysMatched n before h refined
@@ -294,7 +293,7 @@ end_append (v ∷ u ∷ vs) ws = end_append (u ∷ vs) ws
 nothing_matches : (h : DiffHunk) → h.kind ≡ Different → kind_len h.kind (length (get_or (row_of h) 0 [])) ≡ 0
 nothing_matches h d = ap (λ k. kind_len k (length (get_or (row_of h) 0 []))) d
 
-module _ (form : List ℕ → List ℕ) (t : Tokenizer) where
+module _ (form : List ℕ → List ℕ) (t : TokenEnds) where
   start_refined : (hs parts : List DiffHunk) → AreRefinements form t hs parts → start_len (map view_of hs) ≤ start_len (map view_of parts)
   start_refined [] parts r = omega arith
   start_refined (h ∷ hs) parts r = elim (kind_cases h.kind) [
@@ -322,7 +321,7 @@ module _ (form : List ℕ → List ℕ) (t : Tokenizer) where
   )
 
 -- Of hunks of the inputs.
-module _ (form : List ℕ → List ℕ) (t : Tokenizer) (inputs : List (List ℕ)) (hs refined : List DiffHunk)
+module _ (form : List ℕ → List ℕ) (t : TokenEnds) (inputs : List (List ℕ)) (hs refined : List DiffHunk)
     (r : AreHunksOf inputs hs → IsRefined form t hs refined) where
   pub keeps_of : AreHunksOf inputs hs → KeepsMatches (length inputs) hs refined
   keeps_of of = keeps form t (length inputs) hs refined (r of) of.width
@@ -331,27 +330,27 @@ module _ (form : List ℕ → List ℕ) (t : Tokenizer) (inputs : List (List ℕ
   ends_of of = keeps_ends form t hs refined (r of)
 
 -- Of a comparison by lines.
-module _ (inputs : List (List ℕ)) (lines refined : List DiffHunk) (diff : IsDiff Lines inputs lines)
-    (r : AreHunksOf inputs lines → IsRefined (λ text. text) Words lines refined) where
-  pub lines_refined : MatchesEnds Lines inputs lines → AreTrimmed Lines lines → IsRefinedLines inputs refined
+module _ (inputs : List (List ℕ)) (lines refined : List DiffHunk) (diff : IsDiff is_line_end inputs lines)
+    (r : AreHunksOf inputs lines → IsRefined (λ text. text) is_word_end lines refined) where
+  pub lines_refined : MatchesEnds is_line_end inputs lines → AreTrimmed is_line_end lines → IsRefinedLines inputs refined
   lines_refined ends trimmed =
-      let of : AreHunksOf inputs lines = hunks_of_diff (λ text. text) Lines inputs lines diff in
+      let of : AreHunksOf inputs lines = hunks_of_diff (λ text. text) is_line_end inputs lines diff in
       record {
         lines = lines;
         diff = diff;
         ends = ends;
         trimmed = trimmed;
         words = r of;
-        kept = keeps_of (λ text. text) Words inputs lines refined r of;
+        kept = keeps_of (λ text. text) is_word_end inputs lines refined r of;
       }
 
-  pub lines_ends : MatchesEnds Lines inputs lines → MatchesEnds Lines inputs refined
+  pub lines_ends : MatchesEnds is_line_end inputs lines → MatchesEnds is_line_end inputs refined
   lines_ends ends =
-      let kept : KeepsEnds lines refined = ends_of (λ text. text) Words inputs lines refined r (hunks_of_diff (λ text. text) Lines inputs lines diff) in
+      let kept : KeepsEnds lines refined = ends_of (λ text. text) is_word_end inputs lines refined r (hunks_of_diff (λ text. text) is_line_end inputs lines diff) in
       record {
         start = λ n c. omega (arith, ends.start n c, kept.0);
         end = λ n c.
-            let earlier : IsCommonEnd Lines inputs (matched_start lines) n =
+            let earlier : IsCommonEnd is_line_end inputs (matched_start lines) n =
             record { some = c.some; within = λ i lt. omega (arith, c.within i lt, kept.0); equal = c.equal; cuts = c.cuts } in
             omega (arith, ends.end n earlier, kept.1);
       }

@@ -2,19 +2,20 @@
 use Rattle.std.proofs.Common.{◌≡◌, ℕ, ◌+◌, ◌<◌, ◌≤◌, List, [], ◌∷◌, ◌++◌, length, map, take, get_or, refl, ap, sym, ◌∙◌, subst, arith, inl, inr, ◌⊎◌}
 use Rattle.std.proofs.lemmas.List.{length-take-le}
 use Rattle.std.proofs.lemmas.List.Elements.{All-push}
+use Rattle.jj_diff.specs.Tokens.{TokenEnds}
 use Rattle.jj_diff.specs.declared.diff.hunks.DiffHunk.{DiffHunk}
 use Rattle.jj_diff.specs.declared.diff.hunks.DiffHunkKind.TheVariants.{Matching, Different}
-use Rattle.jj_diff.specs.declared.diff.tokens.Tokenizer.{Tokenizer}
 use Rattle.jj_diff.specs.Inputs.{side, AreRanges, AreParts, AreEqualBy, IsNonempty, IsEmpty}
 use Rattle.jj_diff.specs.Hunks.{row_of, kind_len, matched_len, matched_start, matched_end, IsPrefixDiff, EndsIn, AreCuts, HasGap, IsMatch, IsProgress, AreTrimmed, IsTrimmed, IsTrimmedGap, StartsWith}
-use Rattle.jj_diff.proofs.Slices.{length_range, range_join}
+use Rattle.jj_diff.specs.Tokenizers.{length_range}
+use Rattle.jj_diff.proofs.Slices.{range_join}
 use Rattle.jj_diff.proofs.HunkEnds.{matched_end_push}
 
 -- the law of a comparison
 abbrev pub Joins : (List ℕ → List ℕ) → Type 0
 Joins form = (x y z w : List ℕ) → form x ≡ form y → form z ≡ form w → form (x ++ z) ≡ form (y ++ w)
 
-module _ (form : List ℕ → List ℕ) (t : Tokenizer) (inputs : List (List ℕ)) where
+module _ (form : List ℕ → List ℕ) (t : TokenEnds) (inputs : List (List ℕ)) where
   -- equal parts have one canonical form
   pub match_of_equal : (starts ends : List ℕ) → IsMatch (λ text. text) t inputs starts ends → IsMatch form t inputs starts ends
   match_of_equal starts ends same = record {

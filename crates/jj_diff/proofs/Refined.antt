@@ -1,22 +1,18 @@
 -- Laws of refined comparisons: they compare the inputs, and what matched matches.
-use Rattle.std.proofs.Common.{◌≡◌, ◌≢◌, ℕ, suc, zero, ◌+◌, ◌-◌, ◌<◌, ◌≤◌, List, [], ◌∷◌, ◌++◌, length, map, take, drop, get_or, refl, ap, sym, ◌∙◌, subst, arith, inl, inr, ◌⊎◌, length-append, length-drop, append_assoc, append-nil, All, Bool, true, false, not, ◌==◌, ◌||◌}
+use Rattle.std.proofs.Common.{◌≡◌, ℕ, suc, zero, ◌+◌, ◌-◌, ◌<◌, ◌≤◌, List, [], ◌∷◌, ◌++◌, length, map, take, drop, get_or, refl, ap, sym, ◌∙◌, subst, arith, inl, inr, ◌⊎◌, length-append, length-drop, append-nil, All}
 use Rattle.std.proofs.lemmas.List.{map-append, drop-drop}
-use Rattle.std.proofs.lemmas.Bool.Decides.{Decides-eqb}
 use Rattle.std.proofs.Math.Seq.{drop-append_seam, take-append_seam}
 use Rattle.std.specs.List.{slice_range}
 use Rattle.jj_diff.specs.declared.diff.hunks.DiffHunk.{DiffHunk}
 use Rattle.jj_diff.specs.declared.diff.hunks.DiffHunkKind.{DiffHunkKind}
 use Rattle.jj_diff.specs.declared.diff.hunks.DiffHunkKind.TheVariants.{Matching, Different}
-use Rattle.jj_diff.specs.declared.diff.tokens.Tokenizer.{Tokenizer}
-use Rattle.jj_diff.specs.declared.diff.tokens.Tokenizer.TheVariants.{Lines, Words}
 use Rattle.jj_diff.specs.Inputs.{side, AreEqualBy, IsNonempty}
-use Rattle.jj_diff.specs.Tokens.{IsCut, is_word_end, is_word_byte}
+use Rattle.jj_diff.specs.Tokens.{AreEndsToo, IsCut, IsTokenizer, TokenEnds}
 use Rattle.jj_diff.specs.Hunks.{row_of, Alternate, IsHunkBy, IsDiffBy, IsTrimmed, AreTrimmed, AllMatch}
 use Rattle.jj_diff.specs.Refined.{View, view_of, view_side, append_rows, join_kinds, join_first, joined, Each, AreHunksOf, AreRefinements, IsRefinement, IsRowDiff, IsRefined}
 use Rattle.jj_diff.proofs.Views.{view_side_of, side-append, side_joined, get-append_rows, joins_width, Joins, each-append, each_joined, each_of_all, all_of_each, StartsWith, starts_joined}
 use Rattle.jj_diff.proofs.HunkRanges.{side_len}
 use Rattle.jj_diff.proofs.Progress.{Joins as JoinsForm}
-use Rattle.jj_diff.proofs.Slices.{cut_in_range}
 
 pub differs : Different ≡ Matching → ⊥
 differs e = cc
@@ -125,7 +121,7 @@ cuts_joined P i off (v ∷ vs) c =
     cuts_join P i off v (joined vs) c.0 (cuts_joined P i (off + length (get_or v.1 i [])) vs c.1)
 
 -- the cuts of a comparison of a part are cuts of the whole input
-module _ (t : Tokenizer) (text part : List ℕ) (i off : ℕ) (rest : List View)
+module _ (t : TokenEnds) (law : IsTokenizer t) (text part : List ℕ) (i off : ℕ) (rest : List View)
     (within : off + length part ≤ length text) (same : slice_range text off (off + length part) ≡ part)
     (first : IsCut t text off) (more : CutsFrom (IsCut t text) i (off + length part) rest) where
   inner_cuts : (ws : List View) (a : ℕ) → a + length (view_side i ws) ≡ length part
@@ -136,12 +132,12 @@ module _ (t : Tokenizer) (text part : List ℕ) (i off : ℕ) (rest : List View)
   inner_cuts (w ∷ ws) a e c =
       let len : length (view_side i (w ∷ ws)) ≡ length (get_or w.1 i []) + length (view_side i ws) = length-append (get_or w.1 i []) (view_side i ws) in
       let f : off + (a + length (get_or w.1 i [])) ≡ off + a + length (get_or w.1 i []) = omega arith in (
-        cut_in_range t text off (off + length part) a within (omega (arith, e)) first
+        law.inner text off (off + length part) a within (omega (arith, e)) first
             (cuts_first (IsCut t text) i (off + length part) rest more) (subst (λ xs. IsCut t xs a) (sym same) c.0),
         subst (λ o. CutsFrom (IsCut t text) i o (ws ++ rest)) f (inner_cuts ws (a + length (get_or w.1 i [])) (omega (arith, e, len)) c.1),
       )
 
-module _ (form : List ℕ → List ℕ) (t : Tokenizer) where
+module _ (form : List ℕ → List ℕ) (t : TokenEnds) where
   pub split_views : (h : DiffHunk) (hs parts : List DiffHunk) → (r : AreRefinements form t (h ∷ hs) parts)
       → map view_of parts ≡ map view_of r.0 ++ map view_of r.1
   split_views h hs parts r = ap (map view_of) r.2 ∙ map-append view_of r.0 r.1
@@ -195,11 +191,11 @@ module _ (form : List ℕ → List ℕ) (t : Tokenizer) where
         ∙ ap (λ xs. xs ++ view_side i (map view_of r.1)) (side_one h r.0 r.3 (all_head (λ g. length (row_of g) ≡ n) h hs all))
         ∙ ap (λ xs. get_or (row_of h) i [] ++ xs) (side_refinements hs r.1 r.4 (all_tail (λ g. length (row_of g) ≡ n) h hs all))
 
-    cuts_refinements : (text : List ℕ) (hs parts : List DiffHunk) (off : ℕ) → AreRefinements form t hs parts
+    cuts_refinements : IsTokenizer t → (text : List ℕ) (hs parts : List DiffHunk) (off : ℕ) → AreRefinements form t hs parts
         → All (λ h. length (row_of h) ≡ n) hs → off ≤ length text → drop off text ≡ side i (map row_of hs)
         → CutsFrom (IsCut t text) i off (map view_of hs) → CutsFrom (IsCut t text) i off (map view_of parts)
-    cuts_refinements text [] parts off r all le whole c = subst (λ ps. CutsFrom (IsCut t text) i off (map view_of ps)) (sym r) c
-    cuts_refinements text (h ∷ hs) parts off r all le whole c =
+    cuts_refinements law text [] parts off r all le whole c = subst (λ ps. CutsFrom (IsCut t text) i off (map view_of ps)) (sym r) c
+    cuts_refinements law text (h ∷ hs) parts off r all le whole c =
         let part : List ℕ = get_or (row_of h) i [] in
         let later : List ℕ = side i (map row_of hs) in
         let len : length text - off ≡ length part + length later = sym (length-drop off text) ∙ ap length whole ∙ length-append part later in
@@ -207,7 +203,7 @@ module _ (form : List ℕ → List ℕ) (t : Tokenizer) where
         let dropped : drop (off + length part) text ≡ later =
         sym (drop-drop (length part) off text) ∙ ap (drop (length part)) whole ∙ drop-append_seam part later in
         let more : CutsFrom (IsCut t text) i (off + length part) (map view_of r.1) =
-        cuts_refinements text hs r.1 (off + length part) r.4 (all_tail (λ g. length (row_of g) ≡ n) h hs all) (omega (arith, len)) dropped c.1 in
+        cuts_refinements law text hs r.1 (off + length part) r.4 (all_tail (λ g. length (row_of g) ≡ n) h hs all) (omega (arith, len)) dropped c.1 in
         elim (kind_cases h.kind) [
           | inl m ↦ subst (CutsFrom (IsCut t text) i off) (sym (kept_first h hs parts r m)) (c.0, more)
           | inr d ↦
@@ -222,7 +218,7 @@ module _ (form : List ℕ → List ℕ) (t : Tokenizer) where
               let s : 0 + length (view_side i (map view_of r.0)) ≡ length part = omega (arith, ap length (side_one h r.0 r.3 width)) in
               subst (CutsFrom (IsCut t text) i off) (sym (split_views h hs parts r))
               (subst (λ x. CutsFrom (IsCut t text) i x (map view_of r.0 ++ map view_of r.1)) o
-              (inner_cuts t text part i off (map view_of r.1) (omega (arith, len)) same c.0 more (map view_of r.0) 0 s from))
+              (inner_cuts t law text part i off (map view_of r.1) (omega (arith, len)) same c.0 more (map view_of r.0) 0 s from))
         ]
 
   -- the refinements are hunks of the same inputs
@@ -287,9 +283,9 @@ module _ (form : List ℕ → List ℕ) (t : Tokenizer) where
         view_side_of i refined ∙ ap (view_side i) r.2 ∙ side_joined i (map view_of r.0)
         ∙ side_refinements (length inputs) i lt hs r.0 r.1 all
 
-    refined_cuts : IsDiffBy form t inputs hs → (k i : ℕ) → k ≤ length refined → i < length inputs
+    refined_cuts : IsTokenizer t → IsDiffBy form t inputs hs → (k i : ℕ) → k ≤ length refined → i < length inputs
         → IsCut t (get_or inputs i []) (length (side i (map row_of (take k refined))))
-    refined_cuts d k i le lt =
+    refined_cuts law d k i le lt =
         let text : List ℕ = get_or inputs i [] in
         let z : 0 + side_len i (take k refined) ≡ side_len i (take k refined) = omega arith in
         let old : CutsFrom (IsCut t text) i 0 (map view_of hs) = cuts_to_views (IsCut t text) i 0 hs (λ j below.
@@ -297,10 +293,10 @@ module _ (form : List ℕ → List ℕ) (t : Tokenizer) where
         subst (IsCut t text) y (d.cuts j i below lt)) in
         subst (IsCut t text) z (cuts_of_views (IsCut t text) i 0 refined
         (subst (CutsFrom (IsCut t text) i 0) (sym r.2) (cuts_joined (IsCut t text) i 0 (map view_of r.0)
-        (cuts_refinements (length inputs) i lt text hs r.0 0 r.1 (λ j x below. (d.hunks j x below).len) (omega arith) (sym (d.sides i lt)) old))) k le)
+        (cuts_refinements (length inputs) i lt law text hs r.0 0 r.1 (λ j x below. (d.hunks j x below).len) (omega arith) (sym (d.sides i lt)) old))) k le)
 
-    pub refined_diff : JoinsForm form → IsDiffBy form t inputs hs → IsDiffBy form t inputs refined
-    refined_diff join d = record {
+    pub refined_diff : IsTokenizer t → JoinsForm form → IsDiffBy form t inputs hs → IsDiffBy form t inputs refined
+    refined_diff law join d = record {
       sides = λ i lt. refined_side (λ k x below. (d.hunks k x below).len) i lt ∙ d.sides i lt;
       hunks = λ k x lt.
           let hunk : IsViewOfHunk (length inputs) (view_of (get_or refined k x)) =
@@ -309,59 +305,34 @@ module _ (form : List ℕ → List ℕ) (t : Tokenizer) where
           record { len = hunk.0; nonempty = hunk.1; equal = hunk.2 };
       alternate = subst Alternate (sym (kinds_of refined ∙ ap kinds r.2))
           (alternate_joined (map view_of r.0) (separate_refinements hs r.0 r.1 (separate_of hs d.alternate)));
-      cuts = refined_cuts d;
+      cuts = refined_cuts law d;
     }
 
--- the end of a line ends a token
-or_first : (a b c : Bool) → a ≡ true → ((a || b) || c) ≡ true
-or_first a b c e = ap (λ d. (d || b) || c) e
+-- a comparison by tokens whose ends are ends of these tokens too
+pub diff_of_coarser : (form : List ℕ → List ℕ) (t before : TokenEnds) (inputs : List (List ℕ)) (hs : List DiffHunk)
+    → AreEndsToo before t → IsDiffBy form before inputs hs → IsDiffBy form t inputs hs
+diff_of_coarser form t before inputs hs too d = record {
+  sides = d.sides;
+  hunks = d.hunks;
+  alternate = d.alternate;
+  cuts = λ k i le lt. elim (d.cuts k i le lt) [
+    | inl none ↦ inl none
+    | inr token ↦ inr (too (get_or inputs i []) (length (side i (map row_of (take k hs)))) token)
+  ];
+}
 
-or_second : (a b c : Bool) → b ≡ true → ((a || b) || c) ≡ true
-or_second true b c e = refl
-or_second false b c e = ap (λ d. d || c) e
-
-line_end_is_word_end : (text : List ℕ) (n : ℕ) (b : Bool) → b ≡ (get_or text (n - 1) 0 == 10) → (b || (n == length text)) ≡ true
-    → is_word_end text n ≡ true
-line_end_is_word_end text n true e c =
-    let byte : get_or text (n - 1) 0 ≡ 10 = (Decides-eqb (get_or text (n - 1) 0) 10).0 (sym e) in
-    or_second (n == length text) (not (is_word_byte (get_or text (n - 1) 0))) (not (is_word_byte (get_or text n 0)))
-    (ap (λ x. not (is_word_byte x)) byte)
-line_end_is_word_end text n false e c =
-    or_first (n == length text) (not (is_word_byte (get_or text (n - 1) 0))) (not (is_word_byte (get_or text n 0))) c
-
-cut_of_line : (t : Tokenizer) (text : List ℕ) (n : ℕ) → IsCut Lines text n → IsCut t text n
-cut_of_line Lines text n cut = cut
-cut_of_line Words text n cut = elim cut [
-  | inl none ↦ inl none
-  | inr line ↦ inr (line_end_is_word_end text n (get_or text (n - 1) 0 == 10) refl line)
-]
-
-pub diff_of_lines : (form : List ℕ → List ℕ) (t before : Tokenizer) (inputs : List (List ℕ)) (hs : List DiffHunk)
-    → (before ≡ Lines) ⊎ (before ≡ t) → IsDiffBy form before inputs hs → IsDiffBy form t inputs hs
-diff_of_lines form t before inputs hs which d = elim which [
-  | inl e ↦
-      let lines : IsDiffBy form Lines inputs hs = subst (λ x. IsDiffBy form x inputs hs) e d in
-      record {
-        sides = lines.sides;
-        hunks = lines.hunks;
-        alternate = lines.alternate;
-        cuts = λ k i le lt. cut_of_line t (get_or inputs i []) (length (side i (map row_of (take k hs)))) (lines.cuts k i le lt);
-      }
-  | inr e ↦ subst (λ x. IsDiffBy form x inputs hs) e d
-]
-
-pub hunks_of_diff : (form : List ℕ → List ℕ) (t : Tokenizer) (inputs : List (List ℕ)) (hs : List DiffHunk)
+pub hunks_of_diff : (form : List ℕ → List ℕ) (t : TokenEnds) (inputs : List (List ℕ)) (hs : List DiffHunk)
     → IsDiffBy form t inputs hs → AreHunksOf inputs hs
 hunks_of_diff form t inputs hs d = record { width = λ k x lt. (d.hunks k x lt).len; sides = d.sides }
 
 -- Of hunks of the inputs.
-module _ (form : List ℕ → List ℕ) (t : Tokenizer) (inputs : List (List ℕ)) (hs refined : List DiffHunk)
+module _ (form : List ℕ → List ℕ) (t : TokenEnds) (inputs : List (List ℕ)) (hs refined : List DiffHunk)
     (r : AreHunksOf inputs hs → IsRefined form t hs refined) where
-  pub diff_of : JoinsForm form → (before : Tokenizer) → (before ≡ Lines) ⊎ (before ≡ t) → IsDiffBy form before inputs hs
+  pub diff_of : IsTokenizer t → JoinsForm form → (before : TokenEnds) → AreEndsToo before t → IsDiffBy form before inputs hs
       → IsDiffBy form t inputs refined
-  diff_of join before which d =
-      let new : IsDiffBy form t inputs hs = diff_of_lines form t before inputs hs which d in
-      refined_diff form t inputs hs refined (r (hunks_of_diff form t inputs hs new)) join new
+  diff_of law join before too d =
+      let new : IsDiffBy form t inputs hs = diff_of_coarser form t before inputs hs too d in
+      refined_diff form t inputs hs refined (r (hunks_of_diff form t inputs hs new)) law join new
 
   pub trimmed_of : AreHunksOf inputs hs → AreTrimmed t refined
   trimmed_of of = refined_trimmed form t hs refined (r of)

@@ -1,6 +1,6 @@
 -- Rows of parts of the inputs, and hunks of them.
 use Rattle.std.proofs.Common.{◌≡◌, ◌≢◌, ℕ, suc, zero, ◌+◌, ◌-◌, ◌<◌, ◌≤◌, List, [], ◌∷◌, ◌++◌, length, map, take, get_or, Bor, refl, ap, sym, ◌∙◌, subst, arith, below_more, length-append, Bool, true, ◌==◌, inl, inr}
-use Rattle.std.proofs.lemmas.Bool.{cases_lt, eq-eqb}
+use Rattle.std.proofs.lemmas.Bool.{cases_lt}
 use Rattle.std.proofs.lemmas.Bool.Decides.{Decides-eqb}
 use Rattle.std.proofs.Math.ListN.{get_or-map as map-get}
 use Rattle.std.specs.List.{slice_range, concat}
@@ -12,9 +12,7 @@ use Rattle.std.proofs.lemmas.Grind.{common_steps, elements}
 use Rattle.jj_diff.specs.declared.diff.hunks.DiffHunk.{DiffHunk}
 use Rattle.jj_diff.specs.declared.diff.hunks.DiffHunkKind.{DiffHunkKind}
 use Rattle.jj_diff.specs.declared.diff.hunks.DiffHunkKind.TheVariants.{Matching, Different}
-use Rattle.jj_diff.specs.declared.diff.tokens.Tokenizer.{Tokenizer}
-use Rattle.jj_diff.specs.declared.diff.tokens.Tokenizer.TheVariants.{Lines, Words}
-use Rattle.jj_diff.specs.Tokens.{IsCut}
+use Rattle.jj_diff.specs.Tokens.{IsCut, IsTokenizer, TokenEnds}
 use Rattle.jj_diff.specs.Inputs.{bytes_of, side, AreRanges, AreParts, IsEmpty, IsNonempty, AreEqual, AreEqualBy}
 use Rattle.jj_diff.specs.Hunks.{row_of, Alternate, EndsIn, IsHunkBy, IsDiffBy, IsPrefixDiff, AreCuts}
 
@@ -104,26 +102,21 @@ no_side : (i k : ℕ) → side i (map row_of (take k [])) ≡ []
 no_side i zero = refl
 no_side i (suc k) = refl
 
--- the length of the input is a cut
-pub cut_whole : (t : Tokenizer) (text : List ℕ) → IsCut t text (length text)
-cut_whole Lines text = inr (grind (arith, common_steps, eq-eqb (length text) (length text) refl))
-cut_whole Words text = inr (grind (arith, common_steps, eq-eqb (length text) (length text) refl))
-
 -- no hunks end before the first byte
-pub no_cuts : (t : Tokenizer) (text : List ℕ) (i k : ℕ) → IsCut t text (length (side i (map row_of (take k []))))
+pub no_cuts : (t : TokenEnds) (text : List ℕ) (i k : ℕ) → IsCut t text (length (side i (map row_of (take k []))))
 no_cuts t text i zero = inl refl
 no_cuts t text i (suc k) = inl refl
 
-one_cuts : (t : Tokenizer) (text : List ℕ) (i k : ℕ) (h : DiffHunk) → get_or (row_of h) i [] ≡ text
+one_cuts : (t : TokenEnds) (law : IsTokenizer t) (text : List ℕ) (i k : ℕ) (h : DiffHunk) → get_or (row_of h) i [] ≡ text
     → IsCut t text (length (side i (map row_of (take k (h ∷ [])))))
-one_cuts t text i zero h e = inl refl
-one_cuts t text i (suc k) h e =
+one_cuts t law text i zero h e = inl refl
+one_cuts t law text i (suc k) h e =
     let none : side i (map row_of (take k [])) ≡ [] = no_side i k in
     let len : length (get_or (row_of h) i [] ++ side i (map row_of (take k []))) ≡ length text =
     ap (λ xs. length (get_or (row_of h) i [] ++ xs)) none ∙ ap length (append-nil (get_or (row_of h) i []) ∙ e) in
-    subst (λ n. IsCut t text n) (sym len) (cut_whole t text)
+    subst (λ n. IsCut t text n) (sym len) (law.whole text)
 
-module _ (form : List ℕ → List ℕ) (t : Tokenizer) (inputs : List (List ℕ)) (hs : List DiffHunk) (starts ends : List ℕ) where
+module _ (form : List ℕ → List ℕ) (t : TokenEnds) (inputs : List (List ℕ)) (hs : List DiffHunk) (starts ends : List ℕ) where
   -- nothing follows up to `ends`
   pub prefix_skip : IsPrefixDiff form t inputs hs starts → AreRanges inputs starts ends
       → (row : List (List ℕ)) → AreParts inputs starts ends row → IsEmpty row
@@ -188,7 +181,7 @@ module _ (form : List ℕ → List ℕ) (t : Tokenizer) (inputs : List (List ℕ
       prefix_push h Different before ranges are_cuts is_row nonempty (λ e. equal) last (λ e. differs (sym e ∙ kind))
 
 -- the hunks reach the end of all inputs
-pub prefix_whole : (form : List ℕ → List ℕ) (t : Tokenizer) (inputs : List (List ℕ)) (hs : List DiffHunk) (ends : List ℕ)
+pub prefix_whole : (form : List ℕ → List ℕ) (t : TokenEnds) (inputs : List (List ℕ)) (hs : List DiffHunk) (ends : List ℕ)
     → ((i : ℕ) → i < length inputs → get_or ends i 0 ≡ length (get_or inputs i []))
     → IsPrefixDiff form t inputs hs ends → IsDiffBy form t inputs hs
 prefix_whole form t inputs hs ends whole before = record {
@@ -201,7 +194,7 @@ prefix_whole form t inputs hs ends whole before = record {
 pub ruleset prefix_steps = (prefix_different, prefix_matching, prefix_skip, ends_in_push)
 
 -- no hunk, if all inputs are empty
-pub whole_none : (form : List ℕ → List ℕ) (t : Tokenizer) (inputs : List (List ℕ)) → IsEmpty inputs → IsDiffBy form t inputs []
+pub whole_none : (form : List ℕ → List ℕ) (t : TokenEnds) (inputs : List (List ℕ)) → IsEmpty inputs → IsDiffBy form t inputs []
 whole_none form t inputs empty = record {
   sides = λ i lt. sym (empty i lt);
   hunks = All-nil (IsHunkBy form (length inputs));
@@ -210,9 +203,9 @@ whole_none form t inputs empty = record {
 }
 
 -- the inputs as one hunk
-pub whole_one : (form : List ℕ → List ℕ) (t : Tokenizer) (inputs : List (List ℕ)) (h : DiffHunk) → row_of h ≡ inputs → IsNonempty inputs
+pub whole_one : (form : List ℕ → List ℕ) (t : TokenEnds) (law : IsTokenizer t) (inputs : List (List ℕ)) (h : DiffHunk) → row_of h ≡ inputs → IsNonempty inputs
     → (h.kind ≡ Matching → AreEqualBy form inputs) → IsDiffBy form t inputs (h ∷ [])
-whole_one form t inputs h e nonempty equal = record {
+whole_one form t law inputs h e nonempty equal = record {
   sides = λ i lt. append-nil (get_or (row_of h) i []) ∙ ap (λ row. get_or row i []) e;
   hunks = All-cons (IsHunkBy form (length inputs)) h [] (record {
     len = ap length e;
@@ -220,7 +213,7 @@ whole_one form t inputs h e nonempty equal = record {
     equal = λ k. subst (AreEqualBy form) (sym e) (equal k);
   }) (All-nil (IsHunkBy form (length inputs)));
   alternate = tt;
-  cuts = λ k i le lt. one_cuts t (get_or inputs i []) i k h (ap (λ row. get_or row i []) e);
+  cuts = λ k i le lt. one_cuts t law (get_or inputs i []) i k h (ap (λ row. get_or row i []) e);
 }
 
 -- a hunk that differs claims nothing of its parts

@@ -4,14 +4,13 @@ use Rattle.std.specs.Prelude.{◌≡◌, ℕ, ◌+◌, ◌<◌, ◌≤◌, List,
 use Rattle.std.specs.List.{range_with_len, slice_index_or, slice_range}
 use Rattle.std.specs.Global.{Global}
 use Rattle.std.specs.declared.vec.Vec.{Vec}
-use Rattle.jj_diff.specs.declared.diff.tokens.Tokenizer.{Tokenizer}
-use Rattle.jj_diff.specs.Tokens.{IsCut, is_token_end}
+use Rattle.jj_diff.specs.Tokens.{IsCut, TokenEnds}
 use Rattle.jj_diff.specs.Inputs.{AreRanges}
 
 -- the offsets between tokens: 0 and the end of each
-abbrev pub token_offsets : Tokenizer → List ℕ → List ℕ
-token_offsets tokenizer text =
-    0 ∷ filter (is_token_end tokenizer text) (range_with_len 1 (length text))
+abbrev pub token_offsets : TokenEnds → List ℕ → List ℕ
+token_offsets is_end text =
+    0 ∷ filter (is_end text) (range_with_len 1 (length text))
 
 -- the token from offset k to the next
 abbrev pub token_at : List ℕ → List ℕ → ℕ → List ℕ
@@ -27,19 +26,19 @@ StandsOnceAmong text offsets token = (k : ℕ) × StandsAt text offsets token k
     × ((j : ℕ) → StandsAt text offsets token j → j ≡ k)
 
 -- the byte string has the token once
-abbrev pub StandsOnce : Tokenizer → List ℕ → List ℕ → Type 0
-StandsOnce tokenizer text = StandsOnceAmong text (token_offsets tokenizer text)
+abbrev pub StandsOnce : TokenEnds → List ℕ → List ℕ → Type 0
+StandsOnce is_end text = StandsOnceAmong text (token_offsets is_end text)
 
 -- each part has at most 64 tokens
-abbrev pub HasFewTokens : Tokenizer → List (List ℕ) → Type 0
-HasFewTokens tokenizer row = (i : ℕ) → i < length row
-    → length (token_offsets tokenizer (slice_index_or row i [])) ≤ 65
+abbrev pub HasFewTokens : TokenEnds → List (List ℕ) → Type 0
+HasFewTokens is_end row = (i : ℕ) → i < length row
+    → length (token_offsets is_end (slice_index_or row i [])) ≤ 65
 
 -- each part, of which there is one, has the token once
-pub record IsCommonToken (tokenizer : Tokenizer) (row : List (List ℕ)) (token : List ℕ)
+pub record IsCommonToken (is_end : TokenEnds) (row : List (List ℕ)) (token : List ℕ)
     : Type 0 where
   pub some : 0 < length row
-  pub once : (i : ℕ) → i < length row → StandsOnce tokenizer (slice_index_or row i []) token
+  pub once : (i : ℕ) → i < length row → StandsOnce is_end (slice_index_or row i []) token
 
 -- Machinery of private functions.
 
@@ -61,10 +60,10 @@ pub record AreRowOffsets (row offsets : List (List ℕ)) : Type 0 where
       → AreOffsets (slice_index_or row i []) (slice_index_or offsets i [])
 
 -- the offsets between the tokens of each part
-pub record AreTokenOffsets (tokenizer : Tokenizer) (row offsets : List (List ℕ)) : Type 0 where
+pub record AreTokenOffsets (is_end : TokenEnds) (row offsets : List (List ℕ)) : Type 0 where
   pub len : length offsets ≡ length row
   pub each : (i : ℕ) → i < length row
-      → slice_index_or offsets i [] ≡ token_offsets tokenizer (slice_index_or row i [])
+      → slice_index_or offsets i [] ≡ token_offsets is_end (slice_index_or row i [])
 
 -- there are at most 65 offsets in each part
 abbrev pub AreFew : List (List ℕ) → Type 0
@@ -90,14 +89,14 @@ pub record AreTokenRanges (row offsets : List (List ℕ)) (token starts ends : L
   pub tokens : (i : ℕ) → i < length row → IsTokenRange row offsets token starts ends i
 
 -- from `starts` to `ends` all parts have one token
-pub record IsAnchor (tokenizer : Tokenizer) (row : List (List ℕ)) (starts ends : List ℕ)
+pub record IsAnchor (is_end : TokenEnds) (row : List (List ℕ)) (starts ends : List ℕ)
     : Type 0 where
   pub ranges : AreRanges row starts ends
   pub nonempty : (i : ℕ) → i < length row → slice_index starts i < slice_index ends i
   pub start_cuts : (i : ℕ) → i < length row
-      → IsCut tokenizer (slice_index_or row i []) (slice_index starts i)
+      → IsCut is_end (slice_index_or row i []) (slice_index starts i)
   pub end_cuts : (i : ℕ) → i < length row
-      → IsCut tokenizer (slice_index_or row i []) (slice_index ends i)
+      → IsCut is_end (slice_index_or row i []) (slice_index ends i)
   pub equal : (i : ℕ) → i < length row
       → slice_range (slice_index_or row i []) (slice_index starts i) (slice_index ends i)
       ≡ slice_range (slice_index_or row 0 []) (slice_index starts 0) (slice_index ends 0)

@@ -2,30 +2,29 @@
 -- Cited by contracts of public items: IsCommonStart, IsCommonEnd.
 use Rattle.std.specs.Prelude.{◌≡◌, ℕ, ◌+◌, ◌-◌, ◌<◌, ◌≤◌, List, [], length, take, drop}
 use Rattle.std.specs.List.{slice_index_or}
-use Rattle.jj_diff.specs.declared.diff.tokens.Tokenizer.{Tokenizer}
-use Rattle.jj_diff.specs.Tokens.{IsCut}
+use Rattle.jj_diff.specs.Tokens.{IsCut, TokenEnds}
 
 -- the first n bytes of all inputs are equal, and whole tokens of each
-pub record IsCommonStart (tokenizer : Tokenizer) (inputs : List (List ℕ)) (n : ℕ) : Type 0 where
+pub record IsCommonStart (is_end : TokenEnds) (inputs : List (List ℕ)) (n : ℕ) : Type 0 where
   pub some : 0 < length inputs
   pub within : (i : ℕ) → i < length inputs → n ≤ length (slice_index_or inputs i [])
   pub equal : (i : ℕ) → i < length inputs
       → take n (slice_index_or inputs i []) ≡ take n (slice_index_or inputs 0 [])
-  pub cuts : (i : ℕ) → i < length inputs → IsCut tokenizer (slice_index_or inputs i []) n
+  pub cuts : (i : ℕ) → i < length inputs → IsCut is_end (slice_index_or inputs i []) n
 
 -- the last n bytes of all inputs
 abbrev pub suffix : ℕ → List ℕ → List ℕ
 suffix n text = drop (length text - n) text
 
 -- the last n bytes of all inputs are equal, whole tokens of each, and after the first `start` bytes
-pub record IsCommonEnd (tokenizer : Tokenizer) (inputs : List (List ℕ)) (start n : ℕ)
+pub record IsCommonEnd (is_end : TokenEnds) (inputs : List (List ℕ)) (start n : ℕ)
     : Type 0 where
   pub some : 0 < length inputs
   pub within : (i : ℕ) → i < length inputs → start + n ≤ length (slice_index_or inputs i [])
   pub equal : (i : ℕ) → i < length inputs
       → suffix n (slice_index_or inputs i []) ≡ suffix n (slice_index_or inputs 0 [])
   pub cuts : (i : ℕ) → i < length inputs
-      → IsCut tokenizer (slice_index_or inputs i []) (length (slice_index_or inputs i []) - n)
+      → IsCut is_end (slice_index_or inputs i []) (length (slice_index_or inputs i []) - n)
 
 -- Machinery of private functions.
 
@@ -52,11 +51,11 @@ abbrev pub IsWithin : List (List ℕ) → ℕ → Type 0
 IsWithin inputs n = (i : ℕ) → i < length inputs → n ≤ length (slice_index_or inputs i [])
 
 -- each input has a cut after the first n bytes
-abbrev pub AreStartCuts : Tokenizer → List (List ℕ) → ℕ → Type 0
-AreStartCuts tokenizer inputs n =
-    (i : ℕ) → i < length inputs → IsCut tokenizer (slice_index_or inputs i []) n
+abbrev pub AreStartCuts : TokenEnds → List (List ℕ) → ℕ → Type 0
+AreStartCuts is_end inputs n =
+    (i : ℕ) → i < length inputs → IsCut is_end (slice_index_or inputs i []) n
 
 -- each input has a cut before the last n bytes
-abbrev pub AreEndCuts : Tokenizer → List (List ℕ) → ℕ → Type 0
-AreEndCuts tokenizer inputs n = (i : ℕ) → i < length inputs
-    → IsCut tokenizer (slice_index_or inputs i []) (length (slice_index_or inputs i []) - n)
+abbrev pub AreEndCuts : TokenEnds → List (List ℕ) → ℕ → Type 0
+AreEndCuts is_end inputs n = (i : ℕ) → i < length inputs
+    → IsCut is_end (slice_index_or inputs i []) (length (slice_index_or inputs i []) - n)

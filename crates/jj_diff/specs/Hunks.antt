@@ -7,9 +7,8 @@ use Rattle.std.specs.declared.ops.Range.{Range}
 use Rattle.jj_diff.specs.declared.diff.hunks.DiffHunk.{DiffHunk}
 use Rattle.jj_diff.specs.declared.diff.hunks.DiffHunkKind.{DiffHunkKind}
 use Rattle.jj_diff.specs.declared.diff.hunks.DiffHunkKind.TheVariants.{Matching, Different}
-use Rattle.jj_diff.specs.declared.diff.tokens.Tokenizer.{Tokenizer}
 use Rattle.jj_diff.specs.Inputs.{bytes_of, side, AreEqualBy, IsNonempty, AreRanges, AreParts}
-use Rattle.jj_diff.specs.Tokens.{IsCut}
+use Rattle.jj_diff.specs.Tokens.{IsCut, TokenEnds}
 use Rattle.jj_diff.specs.Ends.{IsCommonStart, IsCommonEnd}
 use Rattle.jj_diff.specs.Anchors.{HasFewTokens, IsCommonToken}
 
@@ -32,21 +31,21 @@ pub record IsHunkBy (form : List ℕ → List ℕ) (n : ℕ) (hunk : DiffHunk) :
 -- The hunks compare the inputs: parts i of all hunks are input i, kinds alternate, no hunk is empty
 -- in all inputs, the parts of a matching hunk have one canonical form, and no hunk starts or ends
 -- within a token.
-pub record IsDiffBy (form : List ℕ → List ℕ) (tokenizer : Tokenizer) (inputs : List (List ℕ))
+pub record IsDiffBy (form : List ℕ → List ℕ) (is_end : TokenEnds) (inputs : List (List ℕ))
     (diff : List DiffHunk) : Type 0 where
   pub sides : (i : ℕ) → i < length inputs
       → side i (map row_of diff) ≡ slice_index_or inputs i []
   pub hunks : All (IsHunkBy form (length inputs)) diff
   pub alternate : Alternate (map (λ hunk. hunk.kind) diff)
   pub cuts : (k i : ℕ) → k ≤ length diff → i < length inputs
-      → IsCut tokenizer (slice_index_or inputs i []) (length (side i (map row_of (take k diff))))
+      → IsCut is_end (slice_index_or inputs i []) (length (side i (map row_of (take k diff))))
 
 -- a part of each of n inputs, not all empty, and all equal if the hunk matches
 abbrev pub IsHunk : ℕ → DiffHunk → Type 0
 IsHunk = IsHunkBy (λ text. text)
 
 -- the hunks compare the inputs, and matching hunks have equal parts
-abbrev pub IsDiff : Tokenizer → List (List ℕ) → List DiffHunk → Type 0
+abbrev pub IsDiff : TokenEnds → List (List ℕ) → List DiffHunk → Type 0
 IsDiff = IsDiffBy (λ text. text)
 
 -- where part i of each hunk is, if the first one is at `start` and each other one follows the one
@@ -58,21 +57,21 @@ hunk_ranges i start (hunk ∷ hunks) =
     ∷ hunk_ranges i (start + length (slice_index_or (row_of hunk) i [])) hunks
 
 -- not all parts of the row start with the same tokens, and not all end with the same tokens
-pub record HasTrimmedEnds (tokenizer : Tokenizer) (row : List (List ℕ)) : Type 0 where
-  pub start : (n : ℕ) → IsCommonStart tokenizer row n → n ≡ 0
-  pub end : (n : ℕ) → IsCommonEnd tokenizer row 0 n → n ≡ 0
+pub record HasTrimmedEnds (is_end : TokenEnds) (row : List (List ℕ)) : Type 0 where
+  pub start : (n : ℕ) → IsCommonStart is_end row n → n ≡ 0
+  pub end : (n : ℕ) → IsCommonEnd is_end row 0 n → n ≡ 0
 
 -- The parts of the row do not all start with the same tokens, nor all end with the same tokens. If
 -- each part has at most 64 tokens, then no token occurs exactly once in each.
-pub record IsTrimmed (tokenizer : Tokenizer) (row : List (List ℕ)) : Type 0 where
-  pub start : (n : ℕ) → IsCommonStart tokenizer row n → n ≡ 0
-  pub end : (n : ℕ) → IsCommonEnd tokenizer row 0 n → n ≡ 0
-  pub once : HasFewTokens tokenizer row → (token : List ℕ) → ¬ (IsCommonToken tokenizer row token)
+pub record IsTrimmed (is_end : TokenEnds) (row : List (List ℕ)) : Type 0 where
+  pub start : (n : ℕ) → IsCommonStart is_end row n → n ≡ 0
+  pub end : (n : ℕ) → IsCommonEnd is_end row 0 n → n ≡ 0
+  pub once : HasFewTokens is_end row → (token : List ℕ) → ¬ (IsCommonToken is_end row token)
 
 -- No hunk that differs starts with a token that is equal in all inputs, nor ends with one, nor has
 -- one that occurs exactly once in each part, if the parts have at most 64 tokens.
-abbrev pub AreTrimmed : Tokenizer → List DiffHunk → Type 0
-AreTrimmed tokenizer = All (λ hunk. hunk.kind ≡ Different → IsTrimmed tokenizer (row_of hunk))
+abbrev pub AreTrimmed : TokenEnds → List DiffHunk → Type 0
+AreTrimmed is_end = All (λ hunk. hunk.kind ≡ Different → IsTrimmed is_end (row_of hunk))
 
 -- no hunk differs; since kinds alternate, there is at most one
 abbrev pub AllMatch : List DiffHunk → Type 0
@@ -98,15 +97,15 @@ matched_end (h ∷ []) = matched_len h
 matched_end (h ∷ i ∷ hs) = matched_end (i ∷ hs)
 
 -- The tokens that all inputs start with match, and of the rest the tokens that all end with.
-pub record MatchesEnds (tokenizer : Tokenizer) (inputs : List (List ℕ)) (diff : List DiffHunk)
+pub record MatchesEnds (is_end : TokenEnds) (inputs : List (List ℕ)) (diff : List DiffHunk)
     : Type 0 where
-  pub start : (n : ℕ) → IsCommonStart tokenizer inputs n → n ≤ matched_start diff
-  pub end : (n : ℕ) → IsCommonEnd tokenizer inputs (matched_start diff) n → n ≤ matched_end diff
+  pub start : (n : ℕ) → IsCommonStart is_end inputs n → n ≤ matched_start diff
+  pub end : (n : ℕ) → IsCommonEnd is_end inputs (matched_start diff) n → n ≤ matched_end diff
 
 -- Machinery of private functions.
 
 -- the hunks compare the inputs up to `ends`
-pub record IsPrefixDiff (form : List ℕ → List ℕ) (tokenizer : Tokenizer) (inputs : List (List ℕ))
+pub record IsPrefixDiff (form : List ℕ → List ℕ) (is_end : TokenEnds) (inputs : List (List ℕ))
     (diff : List DiffHunk) (ends : List ℕ) : Type 0 where
   pub len : length ends ≡ length inputs
   pub within : (i : ℕ) → i < length inputs
@@ -116,12 +115,12 @@ pub record IsPrefixDiff (form : List ℕ → List ℕ) (tokenizer : Tokenizer) (
   pub hunks : All (IsHunkBy form (length inputs)) diff
   pub alternate : Alternate (map (λ hunk. hunk.kind) diff)
   pub cuts : (k i : ℕ) → k ≤ length diff → i < length inputs
-      → IsCut tokenizer (slice_index_or inputs i []) (length (side i (map row_of (take k diff))))
+      → IsCut is_end (slice_index_or inputs i []) (length (side i (map row_of (take k diff))))
 
 -- each offset is a cut of its input
-abbrev pub AreCuts : Tokenizer → List (List ℕ) → List ℕ → Type 0
-AreCuts tokenizer inputs offsets = (i : ℕ) → i < length inputs
-    → IsCut tokenizer (slice_index_or inputs i []) (slice_index offsets i)
+abbrev pub AreCuts : TokenEnds → List (List ℕ) → List ℕ → Type 0
+AreCuts is_end inputs offsets = (i : ℕ) → i < length inputs
+    → IsCut is_end (slice_index_or inputs i []) (slice_index offsets i)
 
 -- there is no hunk, or the last one is of this kind
 abbrev pub EndsIn : DiffHunkKind → List DiffHunk → Type 0
@@ -141,10 +140,10 @@ AreRangesEqual form inputs starts ends = (i : ℕ) → i < length inputs
     ≡ form (slice_range (slice_index_or inputs 0 []) (slice_index starts 0) (slice_index ends 0))
 
 -- the ranges from `starts` to `ends` match, and end at tokens
-pub record IsMatch (form : List ℕ → List ℕ) (tokenizer : Tokenizer) (inputs : List (List ℕ))
+pub record IsMatch (form : List ℕ → List ℕ) (is_end : TokenEnds) (inputs : List (List ℕ))
     (starts ends : List ℕ) : Type 0 where
   pub ranges : AreRanges inputs starts ends
-  pub cuts : AreCuts tokenizer inputs ends
+  pub cuts : AreCuts is_end inputs ends
   pub equal : AreRangesEqual form inputs starts ends
 
 -- the first n bytes match, as hunks or, where there is none yet, up to `at`
@@ -183,28 +182,28 @@ pub record AreMovedBack (inputs : List (List ℕ)) (ends : List ℕ) (n : ℕ) (
 
 -- Between `starts` and `ends` all inputs are equal up to `gap_starts` and from `gap_ends` on, and
 -- the rows between are trimmed.
-pub record IsTrimmedGap (tokenizer : Tokenizer) (inputs : List (List ℕ))
+pub record IsTrimmedGap (is_end : TokenEnds) (inputs : List (List ℕ))
     (starts ends gap_starts gap_ends : List ℕ) : Type 0 where
-  pub before : IsMatch (λ text. text) tokenizer inputs starts gap_starts
+  pub before : IsMatch (λ text. text) is_end inputs starts gap_starts
   pub ranges : AreRanges inputs gap_starts gap_ends
-  pub cuts : AreCuts tokenizer inputs gap_ends
-  pub after : IsMatch (λ text. text) tokenizer inputs gap_ends ends
+  pub cuts : AreCuts is_end inputs gap_ends
+  pub after : IsMatch (λ text. text) is_end inputs gap_ends ends
   pub trimmed : (row : List (List ℕ)) → AreParts inputs gap_starts gap_ends row
-      → HasTrimmedEnds tokenizer row
+      → HasTrimmedEnds is_end row
 
 -- The hunks compare the inputs up to `from`, and from there to `at` the inputs match.
-pub record IsProgress (form : List ℕ → List ℕ) (tokenizer : Tokenizer) (inputs : List (List ℕ))
+pub record IsProgress (form : List ℕ → List ℕ) (is_end : TokenEnds) (inputs : List (List ℕ))
     (hunks : List DiffHunk) (from at : List ℕ) : Type 0 where
-  pub prefix : IsPrefixDiff form tokenizer inputs hunks from
-  pub trimmed : AreTrimmed tokenizer hunks
+  pub prefix : IsPrefixDiff form is_end inputs hunks from
+  pub trimmed : AreTrimmed is_end hunks
   pub last : EndsIn Different hunks
-  pub pending : IsMatch form tokenizer inputs from at
+  pub pending : IsMatch form is_end inputs from at
 
 -- After `at` the inputs have a region that matches, is not empty and ends before `limits`.
-pub record IsRegion (form : List ℕ → List ℕ) (tokenizer : Tokenizer) (inputs : List (List ℕ))
+pub record IsRegion (form : List ℕ → List ℕ) (is_end : TokenEnds) (inputs : List (List ℕ))
     (at starts ends limits : List ℕ) : Type 0 where
   pub before : AreRanges inputs at starts
-  pub cuts : AreCuts tokenizer inputs starts
-  pub next : IsMatch form tokenizer inputs starts ends
+  pub cuts : AreCuts is_end inputs starts
+  pub next : IsMatch form is_end inputs starts ends
   pub gap : HasGap inputs starts ends
   pub after : AreRanges inputs ends limits

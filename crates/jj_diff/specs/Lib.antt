@@ -1,6 +1,7 @@
 -- in reading order
 pub mod Inputs
 pub mod Tokens
+pub mod Tokenizers
 pub mod Whitespace
 pub mod Compare
 pub mod Ranges

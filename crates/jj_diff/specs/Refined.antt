@@ -3,11 +3,10 @@
 -- KeepsEnds.
 use Rattle.std.specs.Prelude.{◌≡◌, ℕ, ◌<◌, ◌≤◌, List, [], ◌∷◌, ◌++◌, ◌+◌, length, map, take, drop, All, slice_index}
 use Rattle.std.specs.List.{slice_index_or}
+use Rattle.jj_diff.specs.Tokens.{TokenEnds, is_line_end, is_word_end}
 use Rattle.jj_diff.specs.declared.diff.hunks.DiffHunk.{DiffHunk}
 use Rattle.jj_diff.specs.declared.diff.hunks.DiffHunkKind.{DiffHunkKind}
 use Rattle.jj_diff.specs.declared.diff.hunks.DiffHunkKind.TheVariants.{Matching, Different}
-use Rattle.jj_diff.specs.declared.diff.tokens.Tokenizer.{Tokenizer}
-use Rattle.jj_diff.specs.declared.diff.tokens.Tokenizer.TheVariants.{Lines, Words}
 use Rattle.jj_diff.specs.Inputs.{side, AreEqualBy}
 use Rattle.jj_diff.specs.Hunks.{row_of, IsDiff, IsDiffBy, MatchesEnds, AreTrimmed, AllMatch, matched_start, matched_end}
 
@@ -48,31 +47,31 @@ joined (v ∷ vs) = join_first v (joined vs)
 
 -- The hunks compare a row of parts, and match where it starts and ends alike. If the parts are
 -- equal, all hunks match.
-pub record IsRowDiff (form : List ℕ → List ℕ) (tokenizer : Tokenizer) (row : List (List ℕ))
+pub record IsRowDiff (form : List ℕ → List ℕ) (is_end : TokenEnds) (row : List (List ℕ))
     (hunks : List DiffHunk) : Type 0 where
-  pub diff : IsDiffBy form tokenizer row hunks
-  pub ends : MatchesEnds tokenizer row hunks
-  pub trimmed : AreTrimmed tokenizer hunks
+  pub diff : IsDiffBy form is_end row hunks
+  pub ends : MatchesEnds is_end row hunks
+  pub trimmed : AreTrimmed is_end hunks
   pub identity : AreEqualBy form row → AllMatch hunks
 
 -- a hunk that matches is left as it is, and one that differs becomes a comparison of its parts
-pub record IsRefinement (form : List ℕ → List ℕ) (tokenizer : Tokenizer) (hunk : DiffHunk)
+pub record IsRefinement (form : List ℕ → List ℕ) (is_end : TokenEnds) (hunk : DiffHunk)
     (hunks : List DiffHunk) : Type 0 where
   pub matching : hunk.kind ≡ Matching → map view_of hunks ≡ view_of hunk ∷ []
-  pub different : hunk.kind ≡ Different → IsRowDiff form tokenizer (row_of hunk) hunks
+  pub different : hunk.kind ≡ Different → IsRowDiff form is_end (row_of hunk) hunks
 
 -- the refinements of the hunks, one after the other
-abbrev pub AreRefinements : (List ℕ → List ℕ) → Tokenizer → List DiffHunk → List DiffHunk → Type 0
-AreRefinements form tokenizer [] refined = refined ≡ []
-AreRefinements form tokenizer (hunk ∷ hunks) refined = (first rest : List DiffHunk)
-    × (refined ≡ first ++ rest) × IsRefinement form tokenizer hunk first
-    × AreRefinements form tokenizer hunks rest
+abbrev pub AreRefinements : (List ℕ → List ℕ) → TokenEnds → List DiffHunk → List DiffHunk → Type 0
+AreRefinements form is_end [] refined = refined ≡ []
+AreRefinements form is_end (hunk ∷ hunks) refined = (first rest : List DiffHunk)
+    × (refined ≡ first ++ rest) × IsRefinement form is_end hunk first
+    × AreRefinements form is_end hunks rest
 
 -- Hunks that matched are as they were, those that differed are compared again by their parts, and
 -- then adjacent matching ones are one.
-abbrev pub IsRefined : (List ℕ → List ℕ) → Tokenizer → List DiffHunk → List DiffHunk → Type 0
-IsRefined form tokenizer hunks refined = (parts : List DiffHunk)
-    × AreRefinements form tokenizer hunks parts
+abbrev pub IsRefined : (List ℕ → List ℕ) → TokenEnds → List DiffHunk → List DiffHunk → Type 0
+IsRefined form is_end hunks refined = (parts : List DiffHunk)
+    × AreRefinements form is_end hunks parts
     × (map view_of refined ≡ joined (map view_of parts))
 
 -- A hunk after others is part of a matching one: of n inputs the part before it is as it was.
@@ -103,10 +102,10 @@ KeepsEnds hunks refined =
 -- the hunks are those of a comparison by lines, refined by words
 pub record IsRefinedLines (inputs : List (List ℕ)) (refined : List DiffHunk) : Type 0 where
   pub lines : List DiffHunk
-  pub diff : IsDiff Lines inputs lines
-  pub ends : MatchesEnds Lines inputs lines
-  pub trimmed : AreTrimmed Lines lines
-  pub words : IsRefined (λ text. text) Words lines refined
+  pub diff : IsDiff is_line_end inputs lines
+  pub ends : MatchesEnds is_line_end inputs lines
+  pub trimmed : AreTrimmed is_line_end lines
+  pub words : IsRefined (λ text. text) is_word_end lines refined
   pub kept : KeepsMatches (length inputs) lines refined
 
 -- Machinery of private functions.

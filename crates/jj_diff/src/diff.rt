@@ -1,6 +1,7 @@
 //! Comparison of N byte strings as hunks that match in all of them or differ.
 ghost use Rattle.std.specs.Prelude.{IfOk};
 ghost use Rattle.jj_diff.specs.Inputs.{AreEqual, bytes_of};
+ghost use Rattle.jj_diff.specs.Tokens.{is_line_end};
 ghost use Rattle.jj_diff.specs.Hunks.{AllMatch, AreTrimmed, IsDiff, MatchesEnds};
 
 mod anchors;
@@ -30,7 +31,7 @@ pub use hunks::{
 pub use ranges::{find_line_ranges, find_nonword_ranges, find_word_ranges};
 pub use regions::{find_compared_regions, find_regions};
 use std::alloc::{AllocError, Global};
-pub use tokens::{Tokenizer, find_line_ends, find_word_ends};
+pub use tokens::{Lines, Tokenizer, Words, find_line_ends, find_word_ends};
 
 /// Compares the inputs line by line, each with input `base`.
 pub fn diff_by_line<'a>(
@@ -38,17 +39,17 @@ pub fn diff_by_line<'a>(
     inputs: &[&'a [u8]],
     base: usize,
 ) -> Result<Vec<DiffHunk<'a>>, AllocError>
-    ensures diff { IfOk result (λ hunks. IsDiff Tokenizer.Lines (bytes_of inputs.now) hunks.items) }
+    ensures diff { IfOk result (λ hunks. IsDiff is_line_end (bytes_of inputs.now) hunks.items) }
     ensures ends { IfOk result
-        (λ hunks. MatchesEnds Tokenizer.Lines (bytes_of inputs.now) hunks.items) }
-    ensures trimmed { IfOk result (λ hunks. AreTrimmed Tokenizer.Lines hunks.items) }
+        (λ hunks. MatchesEnds is_line_end (bytes_of inputs.now) hunks.items) }
+    ensures trimmed { IfOk result (λ hunks. AreTrimmed is_line_end hunks.items) }
     ensures identity { IfOk result
         (λ hunks. AreEqual (bytes_of inputs.now) → AllMatch hunks.items) }
 {
     let mut ends = Vec::with_capacity(alloc, inputs.len())?;
     for index in 0..inputs.len() {
-        ends.push(Tokenizer::Lines.find_ends(alloc, inputs[index])?)?;
+        ends.push(Lines.find_ends(alloc, inputs[index])?)?;
     }
     let regions = find_regions(alloc, inputs, &ends, base)?;
-    hunks_of_regions(alloc, Tokenizer::Lines, inputs, &regions)
+    hunks_of_regions(alloc, &Lines, inputs, &regions)
 }

@@ -2,11 +2,10 @@
 use Rattle.std.proofs.Common.{◌≡◌, ℕ, suc, ◌+◌, ◌-◌, ◌<◌, ◌≤◌, ◌⊎◌, Bool, true, false, ◌||◌, ◌==◌, List, [], ◌∷◌, ◌++◌, length, map, take, drop, get_or, refl, sym, ap, ◌∙◌, subst, inl, inr, append_assoc, append-nil, length-append, arith}
 use Rattle.std.proofs.lemmas.Bool.{eqb-true}
 use Rattle.std.proofs.lemmas.List.{at_drop_more, drop_all, get_or_append_left}
-use Rattle.jj_diff.specs.Tokens.{IsCut}
+use Rattle.jj_diff.specs.Tokens.{is_line_end, IsCut}
 use Rattle.jj_diff.specs.Inputs.{side}
 use Rattle.jj_diff.specs.Hunks.{row_of, IsDiff}
 use Rattle.jj_diff.specs.declared.diff.hunks.DiffHunk.{DiffHunk}
-use Rattle.jj_diff.specs.declared.diff.tokens.Tokenizer.TheVariants.{Lines}
 use Rattle.jj_diff_presentation.specs.Lines.{split_lines}
 use Rattle.jj_diff_presentation.specs.Scripts.{lines_of_parts}
 use Rattle.jj_diff_presentation.proofs.Scripts.{match_at}
@@ -48,7 +47,7 @@ empty [] h = refl
 empty (b ∷ x) h = absurd (omega arith)
 
 -- a cut of the whole is between lines
-cut_split : (whole x y rest : List ℕ) → whole ≡ x ++ (y ++ rest) → IsCut Lines whole (length x)
+cut_split : (whole x y rest : List ℕ) → whole ≡ x ++ (y ++ rest) → IsCut is_line_end whole (length x)
     → split_lines (x ++ y) ≡ split_lines x ++ split_lines y
 cut_split whole [] y rest e cut = refl
 cut_split whole (b ∷ x) y rest e cut =
@@ -86,24 +85,24 @@ cut_split whole (b ∷ x) y rest e cut =
 parts_split : (i : ℕ) (whole x : List ℕ) (hs : List DiffHunk)
     → whole ≡ x ++ side i (map row_of hs)
     → ((k : ℕ) → k ≤ length hs
-    → IsCut Lines whole (length x + length (side i (map row_of (take k hs)))))
+    → IsCut is_line_end whole (length x + length (side i (map row_of (take k hs)))))
     → split_lines x ++ lines_of_parts i hs ≡ split_lines whole
 parts_split i whole x [] e cuts =
     append-nil (split_lines x) ∙ ap split_lines (sym (append-nil x) ∙ sym e)
 parts_split i whole x (h ∷ hs) e cuts =
     let y : List ℕ = get_or (row_of h) i [] in
-    let here : IsCut Lines whole (length x)
-    = subst (IsCut Lines whole) (omega arith) (cuts 0 (omega arith)) in
+    let here : IsCut is_line_end whole (length x)
+    = subst (IsCut is_line_end whole) (omega arith) (cuts 0 (omega arith)) in
     let rest : List ℕ = side i (map row_of hs) in
     sym (append_assoc (split_lines x) (split_lines y) (lines_of_parts i hs))
     ∙ ap (λ ls. ls ++ lines_of_parts i hs) (sym (cut_split whole x y rest e here))
     ∙ parts_split i whole (x ++ y) hs (e ∙ sym (append_assoc x y rest))
-    (λ k le. subst (IsCut Lines whole)
+    (λ k le. subst (IsCut is_line_end whole)
     (omega (arith, length-append x y, length-append y (side i (map row_of (take k hs)))))
     (cuts (suc k) (omega (arith, le))))
 
 pub diff_parts : (inputs : List (List ℕ)) (hs : List DiffHunk) (i : ℕ) → i < length inputs
-    → IsDiff Lines inputs hs → lines_of_parts i hs ≡ split_lines (get_or inputs i [])
+    → IsDiff is_line_end inputs hs → lines_of_parts i hs ≡ split_lines (get_or inputs i [])
 diff_parts inputs hs i lt diff =
     parts_split i (get_or inputs i []) [] hs (sym (diff.sides i lt))
-    (λ k le. subst (IsCut Lines (get_or inputs i [])) (omega arith) (diff.cuts k i le lt))
+    (λ k le. subst (IsCut is_line_end (get_or inputs i [])) (omega arith) (diff.cuts k i le lt))

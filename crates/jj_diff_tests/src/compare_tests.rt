@@ -3,7 +3,7 @@
 use crate::hunk_tests::write_hunks;
 use jj_diff::diff::{
     CompareBytes, CompareBytesExactly, CompareBytesIgnoreAllWhitespace,
-    CompareBytesIgnoreWhitespaceAmount, ContentDiff, Tokenizer,
+    CompareBytesIgnoreWhitespaceAmount, ContentDiff, Lines, Words,
 };
 use std::alloc::{AllocError, Global};
 use std::test::Fail;
@@ -15,7 +15,7 @@ fn show_lines<C: CompareBytes>(
     right: &str,
 ) -> Result<Vec<u8>, AllocError> {
     let inputs = [left.as_bytes(), right.as_bytes()];
-    let compared = ContentDiff::for_tokenizer(alloc, &inputs, Tokenizer::Lines, compare)?;
+    let compared = ContentDiff::for_tokenizer(alloc, &inputs, &Lines, compare)?;
     write_hunks(alloc, &compared.hunks)
 }
 
@@ -73,10 +73,10 @@ fn refined(rt: HostRuntime) -> Result<(), Fail> {
         whole.as_slice(),
         b"<one two\nsame\n>one six\nsame\n".as_slice()
     );
-    compared.refine_changed_regions(alloc, Tokenizer::Lines, &CompareBytesExactly)?;
+    compared.refine_changed_regions(alloc, &Lines, &CompareBytesExactly)?;
     let lines = write_hunks(alloc, &compared.hunks)?;
     assert_eq!(rt; lines.as_slice(), b"<one two\n>one six\n=same\n".as_slice());
-    compared.refine_changed_regions(alloc, Tokenizer::Words, &CompareBytesExactly)?;
+    compared.refine_changed_regions(alloc, &Words, &CompareBytesExactly)?;
     let words = write_hunks(alloc, &compared.hunks)?;
     assert_eq!(rt; words.as_slice(), b"=one <two>six=\nsame\n".as_slice());
     let mut count: usize = 0;

@@ -1,7 +1,7 @@
 //! Hunks of two versions by lines, as `git diff --no-index --histogram -U99` (2.39.5) prints them,
 //! and words and ranges that were worked by hand.
 use jj_diff::diff::{
-    ContentDiff, DiffHunk, DiffHunkKind, Tokenizer, diff_by_line, find_line_ranges,
+    ContentDiff, DiffHunk, DiffHunkKind, Lines, diff_by_line, find_line_ranges,
     find_nonword_ranges, find_word_ranges, hunks_of_regions,
 };
 use std::alloc::{AllocError, Global};
@@ -59,7 +59,7 @@ fn versions(rt: HostRuntime) -> Result<(), Fail> {
 fn regions_that_no_search_found(rt: HostRuntime) -> Result<(), Fail> {
     let alloc = rt.alloc();
     let inputs = [b"a\nb\nc\nd\n".as_slice(), b"x\nb\ny\nd\nz\n".as_slice()];
-    let hunks = hunks_of_regions(alloc, Tokenizer::Lines, &inputs, &[])?;
+    let hunks = hunks_of_regions(alloc, &Lines, &inputs, &[])?;
     let text = write_hunks(alloc, &hunks)?;
     assert_eq!(rt;
         text.as_slice(),

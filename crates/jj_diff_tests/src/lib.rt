@@ -5,3 +5,5 @@
 mod compare_tests;
 #[cfg(test)]
 mod hunk_tests;
+#[cfg(test)]
+mod tokenizer_tests;

@@ -1,8 +1,12 @@
 //! Requests on comparisons of byte strings and on their tokens.
+ghost use Rattle.std.specs.Prelude.{ℕ, ◌==◌};
+ghost use Rattle.jj_diff.specs.Tokens.{ends_where};
+ghost use Rattle.jj_diff.specs.Tokenizers.{splitting_tokens};
+
 use jj_diff::diff::{
     CompareBytesExactly, CompareBytesIgnoreAllWhitespace, CompareBytesIgnoreWhitespaceAmount,
-    ContentDiff, DiffHunk, DiffHunkKind, Tokenizer, diff, diff_by_line, find_line_ends,
-    find_line_ranges, find_nonword_ranges, find_word_ranges,
+    ContentDiff, DiffHunk, DiffHunkKind, Lines, Tokenizer, Words, diff, diff_by_line,
+    find_line_ends, find_line_ranges, find_nonword_ranges, find_word_ranges,
 };
 use rows::request::{Fields, Request};
 use rows::row_error::{RowError, agree};
@@ -99,18 +103,45 @@ fn words(alloc: Global, request: &Request, values: &mut Values) -> Result<(), Ro
 fn ignoring(alloc: Global, request: &Request, values: &mut Values) -> Result<(), RowError> {
     let fields = request.group(0);
     let texts = texts(alloc, fields, 1)?;
-    let lines = Tokenizer::Lines;
     let compared = match fields.string(0) {
         "all" => {
             let compare = CompareBytesIgnoreAllWhitespace;
-            ContentDiff::for_tokenizer(alloc, &texts, lines, &compare)?
+            ContentDiff::for_tokenizer(alloc, &texts, &Lines, &compare)?
         }
         "amount" => {
             let compare = CompareBytesIgnoreWhitespaceAmount;
-            ContentDiff::for_tokenizer(alloc, &texts, lines, &compare)?
+            ContentDiff::for_tokenizer(alloc, &texts, &Lines, &compare)?
         }
-        _ => ContentDiff::for_tokenizer(alloc, &texts, lines, &CompareBytesExactly)?,
+        _ => ContentDiff::for_tokenizer(alloc, &texts, &Lines, &CompareBytesExactly)?,
     };
+    put_hunks(&compared.hunks, values);
+    Ok(())
+}
+
+// Tokens that end with this byte, or with the input.
+struct EndedBy {
+    byte: u8,
+}
+
+impl Tokenizer for EndedBy {
+    ghost is_end = { λ tokens. ends_where (λ before after. before == tokens.byte) };
+
+    fn is_end(&self, text: &[u8], end: usize) -> bool {
+        end == text.len() || text[end - 1] == self.byte
+    }
+
+    ghost tokens = { λ tokens. splitting_tokens (λ before after. before == tokens.byte) };
+}
+
+// `diff-ended-by BYTE TEXT..`: the hunks by tokens that end with the byte.
+fn ended_by(alloc: Global, request: &Request, values: &mut Values) -> Result<(), RowError> {
+    let fields = request.group(0);
+    let texts = texts(alloc, fields, 1)?;
+    let Some(byte) = fields.bytes(0).first() else {
+        return agree(false, "a byte that ends tokens");
+    };
+    let tokens = EndedBy { byte: *byte };
+    let compared = ContentDiff::for_tokenizer(alloc, &texts, &tokens, &CompareBytesExactly)?;
     put_hunks(&compared.hunks, values);
     Ok(())
 }
@@ -119,8 +150,8 @@ fn ignoring(alloc: Global, request: &Request, values: &mut Values) -> Result<(),
 fn refined(alloc: Global, request: &Request, values: &mut Values) -> Result<(), RowError> {
     let texts = texts(alloc, request.group(0), 0)?;
     let mut compared = ContentDiff::unrefined(alloc, &texts)?;
-    compared.refine_changed_regions(alloc, Tokenizer::Lines, &CompareBytesExactly)?;
-    compared.refine_changed_regions(alloc, Tokenizer::Words, &CompareBytesExactly)?;
+    compared.refine_changed_regions(alloc, &Lines, &CompareBytesExactly)?;
+    compared.refine_changed_regions(alloc, &Words, &CompareBytesExactly)?;
     for hunk in compared.hunks() {
         values.flag(hunk.kind == DiffHunkKind::Matching);
         for part in &hunk.contents {
@@ -138,6 +169,7 @@ pub fn call(alloc: Global, name: &str, request: &Request, values: &mut Values) -
         "diff-lines-of" => lines_of(alloc, request, values),
         "diff-words" => words(alloc, request, values),
         "diff-ignoring" => ignoring(alloc, request, values),
+        "diff-ended-by" => ended_by(alloc, request, values),
         "diff-refined" => refined(alloc, request, values),
         _ => return false,
     };

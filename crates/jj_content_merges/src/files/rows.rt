@@ -2,7 +2,7 @@
 ghost use Rattle.std.specs.Prelude.{◌≡◌, ℕ, length, map, IfOk, All};
 ghost use Rattle.jj_diff.specs.Inputs.{bytes_of};
 ghost use Rattle.jj_diff.specs.Hunks.{row_of};
-ghost use Rattle.jj_diff.specs.declared.diff.tokens.Tokenizer.TheVariants.{Words};
+ghost use Rattle.jj_diff.specs.Tokens.{is_word_end};
 ghost use Rattle.jj_merges.specs.Merge.{IsOdd};
 ghost use Rattle.std.specs.List.{AllZip};
 ghost use Rattle.jj_content_merges.specs.Files.{terms_of, Outcomes, IsOutcome, IsHunk, IsTokenMerge, IsWordMerge, IsContentMerge};
@@ -57,7 +57,7 @@ fn merge_by_words<'a>(
 ) -> Result<Vec<MergeHunk<'a>>, AllocError>
     requires { IsOdd (length row.now) }
     ensures { IfOk result (λ merged.
-        IsTokenMerge Words same_change (bytes_of row.now) (map terms_of merged.items)) }
+        IsTokenMerge is_word_end same_change (bytes_of row.now) (map terms_of merged.items)) }
 {
     let words = ContentDiff::by_word(alloc, row)?;
     let merged = merge_rows(alloc, &words.hunks, same_change)?;

@@ -13,8 +13,13 @@ use std::alloc::{AllocError, Global};
 const MAX_TOKENS: usize = 64;
 
 // Returns the offsets between tokens: 0 and the end of each.
-fn find_offsets(alloc: Global, tokenizer: Tokenizer, text: &[u8]) -> Result<Vec<usize>, AllocError>
-    ensures { IfOk result (λ offsets. offsets.items ≡ token_offsets tokenizer text.now) }
+fn find_offsets<T: Tokenizer>(
+    alloc: Global,
+    tokenizer: &T,
+    text: &[u8],
+) -> Result<Vec<usize>, AllocError>
+    ensures { IfOk result
+        (λ offsets. offsets.items ≡ token_offsets (T.is_end tokenizer.now) text.now) }
 {
     let ends = tokenizer.find_ends(alloc, text)?;
     let mut offsets = Vec::new(alloc);
@@ -25,13 +30,13 @@ fn find_offsets(alloc: Global, tokenizer: Tokenizer, text: &[u8]) -> Result<Vec<
 
 // Returns the offsets between the tokens of each part.
 #[tactic(auto, using(crate::proofs::Anchors::offset_steps))]
-pub(super) fn find_row_offsets(
+pub(super) fn find_row_offsets<T: Tokenizer>(
     alloc: Global,
-    tokenizer: Tokenizer,
+    tokenizer: &T,
     row: &[&[u8]],
 ) -> Result<Vec<Vec<usize>>, AllocError>
     ensures { IfOk result
-        (λ v. AreTokenOffsets tokenizer (bytes_of row.now) (lists_of v.items)) }
+        (λ v. AreTokenOffsets (T.is_end tokenizer.now) (bytes_of row.now) (lists_of v.items)) }
 {
     let mut result = Vec::with_capacity(alloc, row.len())?;
     for index in 0..row.len() {
@@ -177,18 +182,19 @@ fn offsets_of(offsets: &[Vec<usize>], index: usize) -> &[usize]
 }
 
 // Returns where a token is that each part has once, if there is one.
-fn find_token_ranges(
+fn find_token_ranges<T: Tokenizer>(
     alloc: Global,
-    tokenizer: Tokenizer,
+    tokenizer: &T,
     row: &[&[u8]],
     offsets: &[Vec<usize>],
 ) -> Result<Option<MatchedRegion>, AllocError>
     requires some { 0 < length row.now }
-    requires tokens { AreTokenOffsets tokenizer (bytes_of row.now) (lists_of offsets.now) }
-    ensures anchor { IfOk result (λ found. IfSome found (λ region. IsAnchor tokenizer
+    requires tokens { AreTokenOffsets (T.is_end tokenizer.now) (bytes_of row.now)
+        (lists_of offsets.now) }
+    ensures anchor { IfOk result (λ found. IfSome found (λ region. IsAnchor (T.is_end tokenizer.now)
         (bytes_of row.now) region.starts.items region.ends.items)) }
     ensures none { IfOk result (λ found. found ≡ None
-        → (token : List ℕ) → ¬ (IsCommonToken tokenizer (bytes_of row.now) token)) }
+        → (token : List ℕ) → ¬ (IsCommonToken (T.is_end tokenizer.now) (bytes_of row.now) token)) }
 {
     let first = offsets_of(offsets, 0);
     let index = find_token(row, offsets, row[0], first);
@@ -203,16 +209,17 @@ fn find_token_ranges(
 // Returns where a token is that each part of the row has once, if there is one and the parts
 // have few tokens.
 #[tactic(auto, using(crate::proofs::Anchors::no_few))]
-pub(super) fn find_anchor(
+pub(super) fn find_anchor<T: Tokenizer>(
     alloc: Global,
-    tokenizer: Tokenizer,
+    tokenizer: &T,
     row: &[&[u8]],
 ) -> Result<Option<MatchedRegion>, AllocError>
     requires { 0 < length row.now }
-    ensures anchor { IfOk result (λ found. IfSome found (λ region. IsAnchor tokenizer
+    ensures anchor { IfOk result (λ found. IfSome found (λ region. IsAnchor (T.is_end tokenizer.now)
         (bytes_of row.now) region.starts.items region.ends.items)) }
-    ensures none { IfOk result (λ found. found ≡ None → HasFewTokens tokenizer (bytes_of row.now)
-        → (token : List ℕ) → ¬ (IsCommonToken tokenizer (bytes_of row.now) token)) }
+    ensures none { IfOk result (λ found. found ≡ None
+        → HasFewTokens (T.is_end tokenizer.now) (bytes_of row.now)
+        → (token : List ℕ) → ¬ (IsCommonToken (T.is_end tokenizer.now) (bytes_of row.now) token)) }
 {
     let offsets = find_row_offsets(alloc, tokenizer, row)?;
     if !are_few(&offsets) {

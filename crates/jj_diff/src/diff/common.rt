@@ -5,7 +5,7 @@ ghost use Rattle.jj_diff.specs.Inputs.{bytes_of};
 ghost use Rattle.jj_diff.specs.Tokens.{IsCut};
 ghost use Rattle.jj_diff.specs.Ends.{IsCommonStart, IsCommonEnd, IsEqualStart, IsEqualEnd, IsWithin, AreStartCuts, AreEndCuts, suffix};
 
-use super::tokens::Tokenizer;
+use super::tokens::{Tokenizer, is_cut};
 
 // Returns how many bytes, at most `most`, are equal at the start of both strings.
 #[tactic(auto, using(crate::proofs::CommonEnds::start_steps))]
@@ -88,13 +88,14 @@ fn equal_end(inputs: &[&[u8]], start: usize) -> usize
 }
 
 // Whether each input has a cut after the first `len` bytes.
-fn are_start_cuts(tokenizer: Tokenizer, inputs: &[&[u8]], len: usize) -> bool
+fn are_start_cuts<T: Tokenizer>(tokenizer: &T, inputs: &[&[u8]], len: usize) -> bool
     requires { IsWithin (bytes_of inputs.now) len }
-    ensures cuts { IsTrue result → AreStartCuts tokenizer (bytes_of inputs.now) len }
-    ensures no_cuts { IsFalse result → ¬ (AreStartCuts tokenizer (bytes_of inputs.now) len) }
+    ensures cuts { IsTrue result → AreStartCuts (T.is_end tokenizer.now) (bytes_of inputs.now) len }
+    ensures no_cuts { IsFalse result
+        → ¬ (AreStartCuts (T.is_end tokenizer.now) (bytes_of inputs.now) len) }
 {
     for index in 0..inputs.len() {
-        if !tokenizer.is_cut(inputs[index], len) {
+        if !is_cut(tokenizer, inputs[index], len) {
             return false;
         }
     }
@@ -102,13 +103,14 @@ fn are_start_cuts(tokenizer: Tokenizer, inputs: &[&[u8]], len: usize) -> bool
 }
 
 // Whether each input has a cut before the last `len` bytes.
-fn are_end_cuts(tokenizer: Tokenizer, inputs: &[&[u8]], len: usize) -> bool
+fn are_end_cuts<T: Tokenizer>(tokenizer: &T, inputs: &[&[u8]], len: usize) -> bool
     requires { IsWithin (bytes_of inputs.now) len }
-    ensures cuts { IsTrue result → AreEndCuts tokenizer (bytes_of inputs.now) len }
-    ensures no_cuts { IsFalse result → ¬ (AreEndCuts tokenizer (bytes_of inputs.now) len) }
+    ensures cuts { IsTrue result → AreEndCuts (T.is_end tokenizer.now) (bytes_of inputs.now) len }
+    ensures no_cuts { IsFalse result
+        → ¬ (AreEndCuts (T.is_end tokenizer.now) (bytes_of inputs.now) len) }
 {
     for index in 0..inputs.len() {
-        if !tokenizer.is_cut(inputs[index], inputs[index].len() - len) {
+        if !is_cut(tokenizer, inputs[index], inputs[index].len() - len) {
             return false;
         }
     }
@@ -117,12 +119,12 @@ fn are_end_cuts(tokenizer: Tokenizer, inputs: &[&[u8]], len: usize) -> bool
 
 // Returns the greatest length, at most `most`, at which each input has a cut.
 #[tactic(auto, using(crate::proofs::CommonEnds::cut_steps))]
-fn last_start_cut(tokenizer: Tokenizer, inputs: &[&[u8]], most: usize) -> usize
+fn last_start_cut<T: Tokenizer>(tokenizer: &T, inputs: &[&[u8]], most: usize) -> usize
     requires { IsWithin (bytes_of inputs.now) most }
     ensures most { result ≤ most }
-    ensures cuts { AreStartCuts tokenizer (bytes_of inputs.now) result }
-    ensures longest { (n : ℕ) → n ≤ most → AreStartCuts tokenizer (bytes_of inputs.now) n
-        → n ≤ result }
+    ensures cuts { AreStartCuts (T.is_end tokenizer.now) (bytes_of inputs.now) result }
+    ensures longest { (n : ℕ) → n ≤ most
+        → AreStartCuts (T.is_end tokenizer.now) (bytes_of inputs.now) n → n ≤ result }
 {
     for back in 0..most {
         if are_start_cuts(tokenizer, inputs, most - back) {
@@ -134,12 +136,12 @@ fn last_start_cut(tokenizer: Tokenizer, inputs: &[&[u8]], most: usize) -> usize
 
 // Returns the greatest length, at most `most`, of a suffix before which each input has a cut.
 #[tactic(auto, using(crate::proofs::CommonEnds::cut_steps))]
-fn first_end_cut(tokenizer: Tokenizer, inputs: &[&[u8]], most: usize) -> usize
+fn first_end_cut<T: Tokenizer>(tokenizer: &T, inputs: &[&[u8]], most: usize) -> usize
     requires { IsWithin (bytes_of inputs.now) most }
     ensures most { result ≤ most }
-    ensures cuts { AreEndCuts tokenizer (bytes_of inputs.now) result }
-    ensures longest { (n : ℕ) → n ≤ most → AreEndCuts tokenizer (bytes_of inputs.now) n
-        → n ≤ result }
+    ensures cuts { AreEndCuts (T.is_end tokenizer.now) (bytes_of inputs.now) result }
+    ensures longest { (n : ℕ) → n ≤ most
+        → AreEndCuts (T.is_end tokenizer.now) (bytes_of inputs.now) n → n ≤ result }
 {
     for back in 0..most {
         if are_end_cuts(tokenizer, inputs, most - back) {
@@ -151,10 +153,11 @@ fn first_end_cut(tokenizer: Tokenizer, inputs: &[&[u8]], most: usize) -> usize
 
 // Returns the length of the longest common start of the inputs.
 #[tactic(auto, using(crate::proofs::CommonEnds::common_steps))]
-pub(super) fn common_start(tokenizer: Tokenizer, inputs: &[&[u8]]) -> usize
+pub(super) fn common_start<T: Tokenizer>(tokenizer: &T, inputs: &[&[u8]]) -> usize
     requires { 0 < length inputs.now }
-    ensures common { IsCommonStart tokenizer (bytes_of inputs.now) result }
-    ensures longest { (n : ℕ) → IsCommonStart tokenizer (bytes_of inputs.now) n → n ≤ result }
+    ensures common { IsCommonStart (T.is_end tokenizer.now) (bytes_of inputs.now) result }
+    ensures longest { (n : ℕ) → IsCommonStart (T.is_end tokenizer.now) (bytes_of inputs.now) n
+        → n ≤ result }
 {
     let most = equal_start(inputs);
     last_start_cut(tokenizer, inputs, most)
@@ -162,11 +165,11 @@ pub(super) fn common_start(tokenizer: Tokenizer, inputs: &[&[u8]]) -> usize
 
 // Returns the length of the longest common end of the inputs after the first `start` bytes.
 #[tactic(auto, using(crate::proofs::CommonEnds::common_steps))]
-pub(super) fn common_end(tokenizer: Tokenizer, inputs: &[&[u8]], start: usize) -> usize
+pub(super) fn common_end<T: Tokenizer>(tokenizer: &T, inputs: &[&[u8]], start: usize) -> usize
     requires some { 0 < length inputs.now }
     requires within { IsWithin (bytes_of inputs.now) start }
-    ensures common { IsCommonEnd tokenizer (bytes_of inputs.now) start result }
-    ensures longest { (n : ℕ) → IsCommonEnd tokenizer (bytes_of inputs.now) start n
+    ensures common { IsCommonEnd (T.is_end tokenizer.now) (bytes_of inputs.now) start result }
+    ensures longest { (n : ℕ) → IsCommonEnd (T.is_end tokenizer.now) (bytes_of inputs.now) start n
         → n ≤ result }
 {
     let most = equal_end(inputs, start);

@@ -3,9 +3,9 @@ ghost use Rattle.std.specs.Prelude.{◌≡◌, ◌⊎◌, ◌≤◌, List, [], l
 ghost use Rattle.std.specs.List.{slice_index_or};
 ghost use Rattle.std.specs.Slice.Iter.{iter_rest};
 ghost use Rattle.jj_diff.specs.Inputs.{AreEqual, AreEqualBy, bytes_of, side};
+ghost use Rattle.jj_diff.specs.Tokens.{AreEndsToo, IsTokenizer, TokenEnds, is_line_end, is_word_end};
 ghost use Rattle.jj_diff.specs.Hunks.{AllMatch, AreTrimmed, IsDiff, IsDiffBy, MatchesEnds, hunk_ranges, row_of};
 ghost use Rattle.jj_diff.specs.Refined.{AreHunksOf, IsRefined, IsRefinedLines, KeepsEnds, KeepsMatches};
-ghost use Rattle.jj_diff.specs.declared.diff.tokens.Tokenizer.{Tokenizer};
 
 use super::compare::{CompareBytes, CompareBytesExactly};
 use super::diff_by_line;
@@ -13,7 +13,7 @@ use super::hunks::{DiffHunk, compared_hunks, single_hunk};
 use super::refine::refine_hunks;
 use super::regions::find_compared_regions;
 use super::rows::{offset_after, part_of};
-use super::tokens::Tokenizer;
+use super::tokens::{Tokenizer, Words};
 use std::alloc::{AllocError, Global};
 use std::ops::Range;
 use std::slice::Iter;
@@ -54,23 +54,17 @@ fn ranges_within(
 /// Returns the hunks of a comparison by words: lines are compared first, each input with the first,
 /// and then the words of hunks that differ.
 pub fn diff<'a>(alloc: Global, inputs: &[&'a [u8]]) -> Result<Vec<DiffHunk<'a>>, AllocError>
-    ensures diff { IfOk result (λ hunks. IsDiff Tokenizer.Words (bytes_of inputs.now) hunks.items) }
+    ensures diff { IfOk result (λ hunks. IsDiff is_word_end (bytes_of inputs.now) hunks.items) }
     // Hunks of a comparison by lines are refined: what matches there matches here.
     ensures refined { IfOk result (λ hunks. IsRefinedLines (bytes_of inputs.now) hunks.items) }
     ensures ends { IfOk result
-        (λ hunks. MatchesEnds Tokenizer.Lines (bytes_of inputs.now) hunks.items) }
-    ensures trimmed { IfOk result (λ hunks. AreTrimmed Tokenizer.Words hunks.items) }
+        (λ hunks. MatchesEnds is_line_end (bytes_of inputs.now) hunks.items) }
+    ensures trimmed { IfOk result (λ hunks. AreTrimmed is_word_end hunks.items) }
     ensures identity { IfOk result
         (λ hunks. AreEqual (bytes_of inputs.now) → AllMatch hunks.items) }
 {
     let lines = diff_by_line(alloc, inputs, 0)?;
-    let hunks = refine_hunks(
-        alloc,
-        Tokenizer::Words,
-        &CompareBytesExactly,
-        inputs,
-        &lines,
-    )?;
+    let hunks = refine_hunks(alloc, &Words, &CompareBytesExactly, inputs, &lines)?;
     Ok(hunks)
 }
 
@@ -79,10 +73,10 @@ impl<'a> ContentDiff<'a> {
     pub fn by_line(alloc: Global, inputs: &[&'a [u8]]) -> Result<ContentDiff<'a>, AllocError>
         ensures inputs { IfOk result (λ d. bytes_of d.inputs.items ≡ bytes_of inputs.now) }
         ensures diff { IfOk result
-            (λ d. IsDiff Tokenizer.Lines (bytes_of inputs.now) d.hunks.items) }
+            (λ d. IsDiff is_line_end (bytes_of inputs.now) d.hunks.items) }
         ensures ends { IfOk result
-            (λ d. MatchesEnds Tokenizer.Lines (bytes_of inputs.now) d.hunks.items) }
-        ensures trimmed { IfOk result (λ d. AreTrimmed Tokenizer.Lines d.hunks.items) }
+            (λ d. MatchesEnds is_line_end (bytes_of inputs.now) d.hunks.items) }
+        ensures trimmed { IfOk result (λ d. AreTrimmed is_line_end d.hunks.items) }
         ensures identity { IfOk result
             (λ d. AreEqual (bytes_of inputs.now) → AllMatch d.hunks.items) }
     {
@@ -96,12 +90,12 @@ impl<'a> ContentDiff<'a> {
     pub fn by_word(alloc: Global, inputs: &[&'a [u8]]) -> Result<ContentDiff<'a>, AllocError>
         ensures inputs { IfOk result (λ d. bytes_of d.inputs.items ≡ bytes_of inputs.now) }
         ensures diff { IfOk result
-            (λ d. IsDiff Tokenizer.Words (bytes_of inputs.now) d.hunks.items) }
+            (λ d. IsDiff is_word_end (bytes_of inputs.now) d.hunks.items) }
         ensures refined { IfOk result
             (λ d. IsRefinedLines (bytes_of inputs.now) d.hunks.items) }
         ensures ends { IfOk result
-            (λ d. MatchesEnds Tokenizer.Lines (bytes_of inputs.now) d.hunks.items) }
-        ensures trimmed { IfOk result (λ d. AreTrimmed Tokenizer.Words d.hunks.items) }
+            (λ d. MatchesEnds is_line_end (bytes_of inputs.now) d.hunks.items) }
+        ensures trimmed { IfOk result (λ d. AreTrimmed is_word_end d.hunks.items) }
         ensures identity { IfOk result
             (λ d. AreEqual (bytes_of inputs.now) → AllMatch d.hunks.items) }
     {
@@ -112,18 +106,18 @@ impl<'a> ContentDiff<'a> {
 
     /// Compares the inputs token by token, each with the first: tokens that are equal under
     /// `compare` can match.
-    pub fn for_tokenizer<C: CompareBytes>(
+    pub fn for_tokenizer<T: Tokenizer, C: CompareBytes>(
         alloc: Global,
         inputs: &[&'a [u8]],
-        tokenizer: Tokenizer,
+        tokenizer: &T,
         compare: &C,
     ) -> Result<ContentDiff<'a>, AllocError>
         ensures inputs { IfOk result (λ d. bytes_of d.inputs.items ≡ bytes_of inputs.now) }
-        ensures diff { IfOk result
-            (λ d. IsDiffBy C.canonical tokenizer (bytes_of inputs.now) d.hunks.items) }
+        ensures diff { IfOk result (λ d.
+            IsDiffBy C.canonical (T.is_end tokenizer.now) (bytes_of inputs.now) d.hunks.items) }
         ensures ends { IfOk result
-            (λ d. MatchesEnds tokenizer (bytes_of inputs.now) d.hunks.items) }
-        ensures trimmed { IfOk result (λ d. AreTrimmed tokenizer d.hunks.items) }
+            (λ d. MatchesEnds (T.is_end tokenizer.now) (bytes_of inputs.now) d.hunks.items) }
+        ensures trimmed { IfOk result (λ d. AreTrimmed (T.is_end tokenizer.now) d.hunks.items) }
         ensures identity { IfOk result
             (λ d. AreEqualBy C.canonical (bytes_of inputs.now) → AllMatch d.hunks.items) }
     {
@@ -136,8 +130,8 @@ impl<'a> ContentDiff<'a> {
     /// Returns the inputs as one hunk, which matches if they are equal, or none if they are empty.
     pub fn unrefined(alloc: Global, inputs: &[&'a [u8]]) -> Result<ContentDiff<'a>, AllocError>
         ensures inputs { IfOk result (λ d. bytes_of d.inputs.items ≡ bytes_of inputs.now) }
-        ensures diff { IfOk result (λ d. (tokenizer : Tokenizer)
-            → IsDiff tokenizer (bytes_of inputs.now) d.hunks.items) }
+        ensures diff { IfOk result (λ d. (is_end : TokenEnds) → IsTokenizer is_end
+            → IsDiff is_end (bytes_of inputs.now) d.hunks.items) }
         ensures single { IfOk result (λ d. length d.hunks.items ≤ 1) }
         ensures identity { IfOk result
             (λ d. AreEqual (bytes_of inputs.now) → AllMatch d.hunks.items) }
@@ -149,10 +143,10 @@ impl<'a> ContentDiff<'a> {
 
     /// Compares the parts of each hunk that differs, token by token. Hunks that match stay as they
     /// are; adjacent ones are joined. Fails if memory runs out; the comparison is then unchanged.
-    pub fn refine_changed_regions<C: CompareBytes>(
+    pub fn refine_changed_regions<T: Tokenizer, C: CompareBytes>(
         &mut self,
         alloc: Global,
-        tokenizer: Tokenizer,
+        tokenizer: &T,
         compare: &C,
     ) -> Result<(), AllocError>
         ensures inputs { self.new.inputs.items ≡ self.old.inputs.items }
@@ -160,12 +154,14 @@ impl<'a> ContentDiff<'a> {
         // they start and end alike.
         ensures refined { OnOk result
             (AreHunksOf (bytes_of self.old.inputs.items) self.old.hunks.items
-            → IsRefined C.canonical tokenizer self.old.hunks.items self.new.hunks.items) }
-        // A comparison by lines, or by the tokens that are compared now, is one by these tokens.
-        ensures diff { OnOk result ((before : Tokenizer)
-            → (before ≡ Tokenizer.Lines) ⊎ (before ≡ tokenizer)
+            → IsRefined C.canonical (T.is_end tokenizer.now) self.old.hunks.items
+            self.new.hunks.items) }
+        // A comparison by tokens whose ends are ends of these tokens too, such as lines before
+        // words, is one by these tokens.
+        ensures diff { OnOk result ((before : TokenEnds)
+            → AreEndsToo before (T.is_end tokenizer.now)
             → IsDiffBy C.canonical before (bytes_of self.old.inputs.items) self.old.hunks.items
-            → IsDiffBy C.canonical tokenizer (bytes_of self.old.inputs.items)
+            → IsDiffBy C.canonical (T.is_end tokenizer.now) (bytes_of self.old.inputs.items)
             self.new.hunks.items) }
         // A hunk that matched is part of one that matches.
         ensures kept { OnOk result
@@ -177,7 +173,7 @@ impl<'a> ContentDiff<'a> {
             → KeepsEnds self.old.hunks.items self.new.hunks.items) }
         ensures trimmed { OnOk result
             (AreHunksOf (bytes_of self.old.inputs.items) self.old.hunks.items
-            → AreTrimmed tokenizer self.new.hunks.items) }
+            → AreTrimmed (T.is_end tokenizer.now) self.new.hunks.items) }
         ensures identity { OnOk result
             (AreHunksOf (bytes_of self.old.inputs.items) self.old.hunks.items
             → AllMatch self.old.hunks.items → AllMatch self.new.hunks.items) }

@@ -18,19 +18,19 @@ pub(super) struct Gap {
 // Returns what is between `starts` and `ends` without the tokens that all parts start with, and of
 // the rest those that all parts end with.
 #[tactic(auto, using(crate::proofs::Gaps::gap_steps))]
-pub(super) fn trim_gap(
+pub(super) fn trim_gap<T: Tokenizer>(
     alloc: Global,
-    tokenizer: Tokenizer,
+    tokenizer: &T,
     inputs: &[&[u8]],
     starts: &[usize],
     ends: &[usize],
 ) -> Result<Gap, AllocError>
     requires some { 0 < length inputs.now }
     requires ranges { AreRanges (bytes_of inputs.now) starts.now ends.now }
-    requires starts { AreCuts tokenizer (bytes_of inputs.now) starts.now }
-    requires ends { AreCuts tokenizer (bytes_of inputs.now) ends.now }
-    ensures { IfOk result (λ gap. IsTrimmedGap tokenizer (bytes_of inputs.now) starts.now ends.now
-        gap.starts.items gap.ends.items) }
+    requires starts { AreCuts (T.is_end tokenizer.now) (bytes_of inputs.now) starts.now }
+    requires ends { AreCuts (T.is_end tokenizer.now) (bytes_of inputs.now) ends.now }
+    ensures { IfOk result (λ gap. IsTrimmedGap (T.is_end tokenizer.now) (bytes_of inputs.now)
+        starts.now ends.now gap.starts.items gap.ends.items) }
 {
     let row = parts(alloc, inputs, starts, ends)?;
     let first = common_start(tokenizer, &row);

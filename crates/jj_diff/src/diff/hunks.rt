@@ -2,8 +2,8 @@
 //! region is checked, so that the contracts do not depend on the search.
 ghost use Rattle.std.specs.Prelude.{◌≡◌, ◌⊎◌, ℕ, ◌+◌, ◌<◌, ◌≤◌, List, [], length, IfOk, OnOk, IsTrue, slice_index};
 ghost use Rattle.jj_diff.specs.Inputs.{bytes_of, AreEqual, AreEqualBy, AreRanges, IsNonempty};
+ghost use Rattle.jj_diff.specs.Tokens.{IsTokenizer, TokenEnds};
 ghost use Rattle.jj_diff.specs.Ends.{IsCommonStart, IsCommonEnd};
-ghost use Rattle.jj_diff.specs.declared.diff.tokens.Tokenizer.{Tokenizer};
 ghost use Rattle.jj_diff.specs.Hunks.{IsDiff, IsDiffBy, MatchesEnds, AllMatch, AreTrimmed, AreStarts, AreLimits, AreCuts, IsMatch, IsProgress, IsRegion, HasGap, StartsWith, matched_start, matched_end};
 
 use super::common::{common_end, common_start};
@@ -28,6 +28,30 @@ pub struct DiffHunk<'a> {
     pub contents: Vec<&'a [u8]>,
 }
 
+impl<'a> DiffHunk<'a> {
+    /// Returns a hunk that matches. The caller says that the contents are equal.
+    pub fn matching(contents: Vec<&'a [u8]>) -> DiffHunk<'a>
+        ensures kind { result.kind ≡ DiffHunkKind.Matching }
+        ensures contents { result.contents.items ≡ contents.entry.items }
+    {
+        DiffHunk {
+            kind: DiffHunkKind::Matching,
+            contents,
+        }
+    }
+
+    /// Returns a hunk that differs.
+    pub fn different(contents: Vec<&'a [u8]>) -> DiffHunk<'a>
+        ensures kind { result.kind ≡ DiffHunkKind.Different }
+        ensures contents { result.contents.items ≡ contents.entry.items }
+    {
+        DiffHunk {
+            kind: DiffHunkKind::Different,
+            contents,
+        }
+    }
+}
+
 /// A region that a search found to be equal in all inputs: where it starts and ends in each.
 #[derive(Drop)]
 pub struct MatchedRegion {
@@ -38,9 +62,9 @@ pub struct MatchedRegion {
 // Whether the region from `starts` to `ends` matches, is not empty, and is between `at` and
 // `limits`.
 #[tactic(auto, using(crate::proofs::Progress::region_steps))]
-fn is_region<C: CompareBytes>(
+fn is_region<T: Tokenizer, C: CompareBytes>(
     alloc: Global,
-    tokenizer: Tokenizer,
+    tokenizer: &T,
     compare: &C,
     inputs: &[&[u8]],
     at: &[usize],
@@ -48,7 +72,7 @@ fn is_region<C: CompareBytes>(
     ends: &[usize],
     limits: &[usize],
 ) -> Result<bool, AllocError>
-    ensures { IfOk result (λ fits. IsTrue fits → IsRegion C.canonical tokenizer
+    ensures { IfOk result (λ fits. IsTrue fits → IsRegion C.canonical (T.is_end tokenizer.now)
         (bytes_of inputs.now) at.now starts.now ends.now limits.now) }
 {
     if !are_ranges(inputs, at, starts)
@@ -101,9 +125,9 @@ fn clip(
 
 // Moves on to what is left of the region after what matches before it and before `limits`, unless
 // that is empty or not equal in all inputs.
-fn push_region<'a, C: CompareBytes>(
+fn push_region<'a, T: Tokenizer, C: CompareBytes>(
     alloc: Global,
-    tokenizer: Tokenizer,
+    tokenizer: &T,
     compare: &C,
     inputs: &[&'a [u8]],
     progress: &mut Progress<'a>,
@@ -111,13 +135,14 @@ fn push_region<'a, C: CompareBytes>(
     limits: &[usize],
 ) -> Result<(), AllocError>
     requires some { 0 < length inputs.now }
-    requires progress { IsProgress C.canonical tokenizer (bytes_of inputs.now)
+    requires progress { IsProgress C.canonical (T.is_end tokenizer.now) (bytes_of inputs.now)
         progress.old.hunks.items progress.old.from.items progress.old.at.items }
     requires gap { (progress.old.hunks.items ≡ []) ⊎ HasGap (bytes_of inputs.now)
         progress.old.from.items progress.old.at.items }
     requires ranges { AreRanges (bytes_of inputs.now) progress.old.at.items limits.now }
-    ensures progress { OnOk result (IsProgress C.canonical tokenizer (bytes_of inputs.now)
-        progress.new.hunks.items progress.new.from.items progress.new.at.items) }
+    ensures progress { OnOk result (IsProgress C.canonical (T.is_end tokenizer.now)
+        (bytes_of inputs.now) progress.new.hunks.items progress.new.from.items
+        progress.new.at.items) }
     ensures gap { OnOk result ((progress.new.hunks.items ≡ []) ⊎ HasGap (bytes_of inputs.now)
         progress.new.from.items progress.new.at.items) }
     ensures ranges { OnOk result
@@ -142,29 +167,30 @@ fn push_region<'a, C: CompareBytes>(
     if !fits {
         return Ok(());
     }
-    progress.advance::<C>(alloc, tokenizer, inputs, starts, ends)?;
+    progress.advance::<T, C>(alloc, tokenizer, inputs, starts, ends)?;
     Ok(())
 }
 
 // Moves on to the regions, in order, and then to the last `len` bytes.
-fn push_regions<'a, C: CompareBytes>(
+fn push_regions<'a, T: Tokenizer, C: CompareBytes>(
     alloc: Global,
-    tokenizer: Tokenizer,
+    tokenizer: &T,
     compare: &C,
     inputs: &[&'a [u8]],
     progress: &mut Progress<'a>,
     regions: &[MatchedRegion],
     len: usize,
 ) -> Result<(), AllocError>
-    requires common { IsCommonEnd tokenizer (bytes_of inputs.now) 0 len }
-    requires progress { IsProgress C.canonical tokenizer (bytes_of inputs.now)
+    requires common { IsCommonEnd (T.is_end tokenizer.now) (bytes_of inputs.now) 0 len }
+    requires progress { IsProgress C.canonical (T.is_end tokenizer.now) (bytes_of inputs.now)
         progress.old.hunks.items progress.old.from.items progress.old.at.items }
     requires gap { (progress.old.hunks.items ≡ []) ⊎ HasGap (bytes_of inputs.now)
         progress.old.from.items progress.old.at.items }
     requires ranges { (limits : List ℕ) → AreLimits (bytes_of inputs.now) len limits
         → AreRanges (bytes_of inputs.now) progress.old.at.items limits }
-    ensures progress { OnOk result (IsProgress C.canonical tokenizer (bytes_of inputs.now)
-        progress.new.hunks.items progress.new.from.items progress.new.at.items) }
+    ensures progress { OnOk result (IsProgress C.canonical (T.is_end tokenizer.now)
+        (bytes_of inputs.now) progress.new.hunks.items progress.new.from.items
+        progress.new.at.items) }
     ensures at { OnOk result (AreLimits (bytes_of inputs.now) 0 progress.new.at.items) }
     ensures from { OnOk result (slice_index progress.new.from.items 0 + len
         ≤ slice_index progress.new.at.items 0) }
@@ -179,19 +205,19 @@ fn push_regions<'a, C: CompareBytes>(
     for region in regions {
         push_region(alloc, tokenizer, compare, inputs, progress, region, starts)?;
     }
-    progress.advance::<C>(alloc, tokenizer, inputs, starts, ends)?;
+    progress.advance::<T, C>(alloc, tokenizer, inputs, starts, ends)?;
     Ok(())
 }
 
 // Returns what has been found once it is known that the first `len` bytes match.
 #[tactic(auto, using(crate::proofs::HunkEnds::start_steps))]
-fn progress_from<'a>(
+fn progress_from<'a, T: Tokenizer>(
     alloc: Global,
-    tokenizer: Tokenizer,
+    tokenizer: &T,
     inputs: &[&'a [u8]],
     len: usize,
 ) -> Result<Progress<'a>, AllocError>
-    requires { IsCommonStart tokenizer (bytes_of inputs.now) len }
+    requires { IsCommonStart (T.is_end tokenizer.now) (bytes_of inputs.now) len }
     ensures hunks { IfOk result (λ progress. progress.hunks.items ≡ []) }
     ensures from { IfOk result
         (λ progress. AreStarts (bytes_of inputs.now) 0 progress.from.items) }
@@ -206,16 +232,16 @@ fn progress_from<'a>(
 
 // Returns the hunks of equal inputs.
 #[tactic(auto, using(crate::proofs::Rows::whole_steps, crate::proofs::HunkEnds::equal_steps))]
-fn equal_hunks<'a, C: CompareBytes>(
+fn equal_hunks<'a, T: Tokenizer, C: CompareBytes>(
     alloc: Global,
-    tokenizer: Tokenizer,
+    tokenizer: &T,
     inputs: &[&'a [u8]],
 ) -> Result<Vec<DiffHunk<'a>>, AllocError>
     requires { AreEqualBy C.canonical (bytes_of inputs.now) }
     ensures diff { IfOk result
-        (λ hunks. IsDiffBy C.canonical tokenizer (bytes_of inputs.now) hunks.items) }
+        (λ hunks. IsDiffBy C.canonical (T.is_end tokenizer.now) (bytes_of inputs.now) hunks.items) }
     ensures ends { IfOk result
-        (λ hunks. MatchesEnds tokenizer (bytes_of inputs.now) hunks.items) }
+        (λ hunks. MatchesEnds (T.is_end tokenizer.now) (bytes_of inputs.now) hunks.items) }
     ensures matching { IfOk result (λ hunks. AllMatch hunks.items) }
 {
     if is_empty(inputs) {
@@ -232,19 +258,19 @@ fn equal_hunks<'a, C: CompareBytes>(
 
 // Returns the hunks of unequal inputs.
 #[tactic(auto, using(crate::proofs::HunkEnds::whole_steps))]
-fn region_hunks<'a, C: CompareBytes>(
+fn region_hunks<'a, T: Tokenizer, C: CompareBytes>(
     alloc: Global,
-    tokenizer: Tokenizer,
+    tokenizer: &T,
     compare: &C,
     inputs: &[&'a [u8]],
     regions: &[MatchedRegion],
 ) -> Result<Vec<DiffHunk<'a>>, AllocError>
     requires { 0 < length inputs.now }
     ensures diff { IfOk result
-        (λ hunks. IsDiffBy C.canonical tokenizer (bytes_of inputs.now) hunks.items) }
+        (λ hunks. IsDiffBy C.canonical (T.is_end tokenizer.now) (bytes_of inputs.now) hunks.items) }
     ensures ends { IfOk result
-        (λ hunks. MatchesEnds tokenizer (bytes_of inputs.now) hunks.items) }
-    ensures trimmed { IfOk result (λ hunks. AreTrimmed tokenizer hunks.items) }
+        (λ hunks. MatchesEnds (T.is_end tokenizer.now) (bytes_of inputs.now) hunks.items) }
+    ensures trimmed { IfOk result (λ hunks. AreTrimmed (T.is_end tokenizer.now) hunks.items) }
 {
     let start = common_start(tokenizer, inputs);
     let end = common_end(tokenizer, inputs, start);
@@ -259,7 +285,7 @@ fn region_hunks<'a, C: CompareBytes>(
         end,
     )?;
     let mut hunks = progress.hunks;
-    push_matching::<C>(
+    push_matching::<T, C>(
         alloc,
         tokenizer,
         &mut hunks,
@@ -277,23 +303,23 @@ fn region_hunks<'a, C: CompareBytes>(
 /// cuts a token. Inputs that are equal under the comparison are one matching hunk, or none if they
 /// are empty.
 #[tactic(auto, using(crate::proofs::HunkEnds::compared_steps))]
-pub fn compared_hunks<'a, C: CompareBytes>(
+pub fn compared_hunks<'a, T: Tokenizer, C: CompareBytes>(
     alloc: Global,
-    tokenizer: Tokenizer,
+    tokenizer: &T,
     compare: &C,
     inputs: &[&'a [u8]],
     regions: &[MatchedRegion],
 ) -> Result<Vec<DiffHunk<'a>>, AllocError>
     ensures diff { IfOk result
-        (λ hunks. IsDiffBy C.canonical tokenizer (bytes_of inputs.now) hunks.items) }
+        (λ hunks. IsDiffBy C.canonical (T.is_end tokenizer.now) (bytes_of inputs.now) hunks.items) }
     ensures ends { IfOk result
-        (λ hunks. MatchesEnds tokenizer (bytes_of inputs.now) hunks.items) }
-    ensures trimmed { IfOk result (λ hunks. AreTrimmed tokenizer hunks.items) }
+        (λ hunks. MatchesEnds (T.is_end tokenizer.now) (bytes_of inputs.now) hunks.items) }
+    ensures trimmed { IfOk result (λ hunks. AreTrimmed (T.is_end tokenizer.now) hunks.items) }
     ensures identity { IfOk result
         (λ hunks. AreEqualBy C.canonical (bytes_of inputs.now) → AllMatch hunks.items) }
 {
     if are_equal(compare, inputs) {
-        let hunks = equal_hunks::<C>(alloc, tokenizer, inputs)?;
+        let hunks = equal_hunks::<T, C>(alloc, tokenizer, inputs)?;
         return Ok(hunks);
     }
     let hunks = region_hunks(alloc, tokenizer, compare, inputs, regions)?;
@@ -308,8 +334,8 @@ fn whole_hunk<'a>(
 ) -> Result<Vec<DiffHunk<'a>>, AllocError>
     requires nonempty { IsNonempty (bytes_of inputs.now) }
     requires equal { kind ≡ DiffHunkKind.Matching → AreEqual (bytes_of inputs.now) }
-    ensures diff { IfOk result (λ hunks. (tokenizer : Tokenizer)
-        → IsDiff tokenizer (bytes_of inputs.now) hunks.items) }
+    ensures diff { IfOk result (λ hunks. (is_end : TokenEnds) → IsTokenizer is_end
+        → IsDiff is_end (bytes_of inputs.now) hunks.items) }
     ensures single { IfOk result (λ hunks. length hunks.items ≡ 1) }
     ensures kind { IfOk result (λ hunks. kind ≡ DiffHunkKind.Matching → AllMatch hunks.items) }
 {
@@ -325,8 +351,8 @@ fn whole_hunk<'a>(
 /// Returns the inputs as one hunk, which matches if they are equal, or none if they are empty.
 #[tactic(auto, using(crate::proofs::Rows::whole_steps))]
 pub fn single_hunk<'a>(alloc: Global, inputs: &[&'a [u8]]) -> Result<Vec<DiffHunk<'a>>, AllocError>
-    ensures diff { IfOk result (λ hunks. (tokenizer : Tokenizer)
-        → IsDiff tokenizer (bytes_of inputs.now) hunks.items) }
+    ensures diff { IfOk result (λ hunks. (is_end : TokenEnds) → IsTokenizer is_end
+        → IsDiff is_end (bytes_of inputs.now) hunks.items) }
     ensures single { IfOk result (λ hunks. length hunks.items ≤ 1) }
     ensures identity { IfOk result
         (λ hunks. AreEqual (bytes_of inputs.now) → AllMatch hunks.items) }
@@ -343,16 +369,17 @@ pub fn single_hunk<'a>(alloc: Global, inputs: &[&'a [u8]]) -> Result<Vec<DiffHun
 }
 
 /// Returns the hunks of the inputs under `CompareBytesExactly`. See `compared_hunks`.
-pub fn hunks_of_regions<'a>(
+pub fn hunks_of_regions<'a, T: Tokenizer>(
     alloc: Global,
-    tokenizer: Tokenizer,
+    tokenizer: &T,
     inputs: &[&'a [u8]],
     regions: &[MatchedRegion],
 ) -> Result<Vec<DiffHunk<'a>>, AllocError>
-    ensures diff { IfOk result (λ hunks. IsDiff tokenizer (bytes_of inputs.now) hunks.items) }
+    ensures diff { IfOk result
+        (λ hunks. IsDiff (T.is_end tokenizer.now) (bytes_of inputs.now) hunks.items) }
     ensures ends { IfOk result
-        (λ hunks. MatchesEnds tokenizer (bytes_of inputs.now) hunks.items) }
-    ensures trimmed { IfOk result (λ hunks. AreTrimmed tokenizer hunks.items) }
+        (λ hunks. MatchesEnds (T.is_end tokenizer.now) (bytes_of inputs.now) hunks.items) }
+    ensures trimmed { IfOk result (λ hunks. AreTrimmed (T.is_end tokenizer.now) hunks.items) }
     ensures identity { IfOk result
         (λ hunks. AreEqual (bytes_of inputs.now) → AllMatch hunks.items) }
 {

@@ -23,8 +23,8 @@ pub(super) struct Progress<'a> {
 
 // Appends a hunk that differs.
 #[tactic(auto, using(crate::proofs::Rows::prefix_steps, crate::proofs::Progress::push_steps))]
-fn push_different<'a, C: CompareBytes>(
-    tokenizer: Tokenizer,
+fn push_different<'a, T: Tokenizer, C: CompareBytes>(
+    tokenizer: &T,
     hunks: &mut Vec<DiffHunk<'a>>,
     inputs: &[&'a [u8]],
     starts: &[usize],
@@ -32,17 +32,17 @@ fn push_different<'a, C: CompareBytes>(
     row: Vec<&'a [u8]>,
 ) -> Result<(), AllocError>
     requires ranges { AreRanges (bytes_of inputs.now) starts.now ends.now }
-    requires cuts { AreCuts tokenizer (bytes_of inputs.now) ends.now }
-    requires prefix { IsPrefixDiff C.canonical tokenizer (bytes_of inputs.now) hunks.old.items
-        starts.now }
-    requires all_trimmed { AreTrimmed tokenizer hunks.old.items }
+    requires cuts { AreCuts (T.is_end tokenizer.now) (bytes_of inputs.now) ends.now }
+    requires prefix { IsPrefixDiff C.canonical (T.is_end tokenizer.now) (bytes_of inputs.now)
+        hunks.old.items starts.now }
+    requires all_trimmed { AreTrimmed (T.is_end tokenizer.now) hunks.old.items }
     requires last { EndsIn DiffHunkKind.Matching hunks.old.items }
     requires row { AreParts (bytes_of inputs.now) starts.now ends.now (bytes_of row.items) }
     requires nonempty { IsNonempty (bytes_of row.items) }
-    requires trimmed { IsTrimmed tokenizer (bytes_of row.items) }
-    ensures prefix { OnOk result (IsPrefixDiff C.canonical tokenizer (bytes_of inputs.now)
-        hunks.new.items ends.now) }
-    ensures trimmed { OnOk result (AreTrimmed tokenizer hunks.new.items) }
+    requires trimmed { IsTrimmed (T.is_end tokenizer.now) (bytes_of row.items) }
+    ensures prefix { OnOk result (IsPrefixDiff C.canonical (T.is_end tokenizer.now)
+        (bytes_of inputs.now) hunks.new.items ends.now) }
+    ensures trimmed { OnOk result (AreTrimmed (T.is_end tokenizer.now) hunks.new.items) }
     ensures last { OnOk result (EndsIn DiffHunkKind.Different hunks.new.items) }
     ensures start { OnOk result ((n : ℕ) → (at : List ℕ) → n ≤ matched_start hunks.old.items
         → StartsWith n hunks.new.items at) }
@@ -56,23 +56,24 @@ fn push_different<'a, C: CompareBytes>(
 
 // Appends a matching hunk, unless it is empty in all inputs.
 #[tactic(auto, using(crate::proofs::Rows::prefix_steps, crate::proofs::Progress::push_steps))]
-pub(super) fn push_matching<'a, C: CompareBytes>(
+pub(super) fn push_matching<'a, T: Tokenizer, C: CompareBytes>(
     alloc: Global,
-    tokenizer: Tokenizer,
+    tokenizer: &T,
     hunks: &mut Vec<DiffHunk<'a>>,
     inputs: &[&'a [u8]],
     starts: &[usize],
     ends: &[usize],
 ) -> Result<(), AllocError>
     requires some { 0 < length inputs.now }
-    requires prefix { IsPrefixDiff C.canonical tokenizer (bytes_of inputs.now) hunks.old.items
-        starts.now }
-    requires trimmed { AreTrimmed tokenizer hunks.old.items }
+    requires prefix { IsPrefixDiff C.canonical (T.is_end tokenizer.now) (bytes_of inputs.now)
+        hunks.old.items starts.now }
+    requires trimmed { AreTrimmed (T.is_end tokenizer.now) hunks.old.items }
     requires last { EndsIn DiffHunkKind.Different hunks.old.items }
-    requires pending { IsMatch C.canonical tokenizer (bytes_of inputs.now) starts.now ends.now }
-    ensures prefix { OnOk result (IsPrefixDiff C.canonical tokenizer (bytes_of inputs.now)
-        hunks.new.items ends.now) }
-    ensures trimmed { OnOk result (AreTrimmed tokenizer hunks.new.items) }
+    requires pending { IsMatch C.canonical (T.is_end tokenizer.now) (bytes_of inputs.now) starts.now
+        ends.now }
+    ensures prefix { OnOk result (IsPrefixDiff C.canonical (T.is_end tokenizer.now)
+        (bytes_of inputs.now) hunks.new.items ends.now) }
+    ensures trimmed { OnOk result (AreTrimmed (T.is_end tokenizer.now) hunks.new.items) }
     ensures last { OnOk result
         ((hunks.old.items ≡ []) ⊎ HasGap (bytes_of inputs.now) starts.now ends.now
         → EndsIn DiffHunkKind.Matching hunks.new.items) }
@@ -95,9 +96,9 @@ pub(super) fn push_matching<'a, C: CompareBytes>(
 
 // Appends what matches after the hunks, and then the gap as a hunk that differs.
 #[tactic(auto)]
-fn push_gap<'a, C: CompareBytes>(
+fn push_gap<'a, T: Tokenizer, C: CompareBytes>(
     alloc: Global,
-    tokenizer: Tokenizer,
+    tokenizer: &T,
     hunks: &mut Vec<DiffHunk<'a>>,
     inputs: &[&'a [u8]],
     from: &[usize],
@@ -105,29 +106,29 @@ fn push_gap<'a, C: CompareBytes>(
     row: Vec<&'a [u8]>,
 ) -> Result<(), AllocError>
     requires some { 0 < length inputs.now }
-    requires prefix { IsPrefixDiff C.canonical tokenizer (bytes_of inputs.now) hunks.old.items
-        from.now }
-    requires all_trimmed { AreTrimmed tokenizer hunks.old.items }
+    requires prefix { IsPrefixDiff C.canonical (T.is_end tokenizer.now) (bytes_of inputs.now)
+        hunks.old.items from.now }
+    requires all_trimmed { AreTrimmed (T.is_end tokenizer.now) hunks.old.items }
     requires last { EndsIn DiffHunkKind.Different hunks.old.items }
-    requires pending { IsMatch C.canonical tokenizer (bytes_of inputs.now) from.now
+    requires pending { IsMatch C.canonical (T.is_end tokenizer.now) (bytes_of inputs.now) from.now
         gap.now.starts.items }
     requires gap { (hunks.old.items ≡ []) ⊎ HasGap (bytes_of inputs.now) from.now
         gap.now.starts.items }
     requires ranges { AreRanges (bytes_of inputs.now) gap.now.starts.items gap.now.ends.items }
-    requires cuts { AreCuts tokenizer (bytes_of inputs.now) gap.now.ends.items }
+    requires cuts { AreCuts (T.is_end tokenizer.now) (bytes_of inputs.now) gap.now.ends.items }
     requires row { AreParts (bytes_of inputs.now) gap.now.starts.items gap.now.ends.items
         (bytes_of row.items) }
     requires nonempty { IsNonempty (bytes_of row.items) }
-    requires trimmed { IsTrimmed tokenizer (bytes_of row.items) }
-    ensures prefix { OnOk result (IsPrefixDiff C.canonical tokenizer (bytes_of inputs.now)
-        hunks.new.items gap.now.ends.items) }
-    ensures trimmed { OnOk result (AreTrimmed tokenizer hunks.new.items) }
+    requires trimmed { IsTrimmed (T.is_end tokenizer.now) (bytes_of row.items) }
+    ensures prefix { OnOk result (IsPrefixDiff C.canonical (T.is_end tokenizer.now)
+        (bytes_of inputs.now) hunks.new.items gap.now.ends.items) }
+    ensures trimmed { OnOk result (AreTrimmed (T.is_end tokenizer.now) hunks.new.items) }
     ensures last { OnOk result (EndsIn DiffHunkKind.Different hunks.new.items) }
     ensures start { OnOk result ((n : ℕ) → (at : List ℕ)
         → StartsWith n hunks.old.items gap.now.starts.items → StartsWith n hunks.new.items at) }
 {
-    push_matching::<C>(alloc, tokenizer, hunks, inputs, from, &gap.starts)?;
-    push_different::<C>(tokenizer, hunks, inputs, &gap.starts, &gap.ends, row)?;
+    push_matching::<T, C>(alloc, tokenizer, hunks, inputs, from, &gap.starts)?;
+    push_different::<T, C>(tokenizer, hunks, inputs, &gap.starts, &gap.ends, row)?;
     Ok(())
 }
 
@@ -164,10 +165,10 @@ impl<'a> Progress<'a> {
     // Moves on to what matches from `starts` to `ends`, over a gap that no anchor splits. The row
     // of the gap becomes a hunk that differs.
     #[tactic(auto)]
-    fn pass<C: CompareBytes>(
+    fn pass<T: Tokenizer, C: CompareBytes>(
         &mut self,
         alloc: Global,
-        tokenizer: Tokenizer,
+        tokenizer: &T,
         inputs: &[&'a [u8]],
         gap: Gap,
         row: Vec<&'a [u8]>,
@@ -175,20 +176,22 @@ impl<'a> Progress<'a> {
         ends: &[usize],
     ) -> Result<(), AllocError>
         requires some { 0 < length inputs.now }
-        requires progress { IsProgress C.canonical tokenizer (bytes_of inputs.now)
+        requires progress { IsProgress C.canonical (T.is_end tokenizer.now) (bytes_of inputs.now)
             self.old.hunks.items self.old.from.items self.old.at.items }
         requires gap { (self.old.hunks.items ≡ []) ⊎ HasGap (bytes_of inputs.now)
             self.old.from.items self.old.at.items }
         requires ranges { AreRanges (bytes_of inputs.now) self.old.at.items starts.now }
-        requires next { IsMatch C.canonical tokenizer (bytes_of inputs.now) starts.now ends.now }
-        requires trimmed { IsTrimmedGap tokenizer (bytes_of inputs.now) self.old.at.items starts.now
-            gap.starts.items gap.ends.items }
+        requires next { IsMatch C.canonical (T.is_end tokenizer.now) (bytes_of inputs.now)
+            starts.now ends.now }
+        requires trimmed { IsTrimmedGap (T.is_end tokenizer.now) (bytes_of inputs.now)
+            self.old.at.items starts.now gap.starts.items gap.ends.items }
         requires row { AreParts (bytes_of inputs.now) gap.starts.items gap.ends.items
             (bytes_of row.items) }
-        requires once { HasFewTokens tokenizer (bytes_of row.items) → (token : List ℕ)
-            → ¬ (IsCommonToken tokenizer (bytes_of row.items) token) }
-        ensures progress { OnOk result (IsProgress C.canonical tokenizer (bytes_of inputs.now)
-            self.new.hunks.items self.new.from.items self.new.at.items) }
+        requires once { HasFewTokens (T.is_end tokenizer.now) (bytes_of row.items)
+            → (token : List ℕ)
+            → ¬ (IsCommonToken (T.is_end tokenizer.now) (bytes_of row.items) token) }
+        ensures progress { OnOk result (IsProgress C.canonical (T.is_end tokenizer.now)
+            (bytes_of inputs.now) self.new.hunks.items self.new.from.items self.new.at.items) }
         ensures at { OnOk result (self.new.at.items ≡ ends.now) }
         ensures from { OnOk result
             (AreRanges (bytes_of inputs.now) self.new.from.items starts.now) }
@@ -201,7 +204,7 @@ impl<'a> Progress<'a> {
             self.at = next;
             return Ok(());
         }
-        push_gap::<C>(
+        push_gap::<T, C>(
             alloc,
             tokenizer,
             &mut self.hunks,
@@ -219,24 +222,25 @@ impl<'a> Progress<'a> {
     // all inputs start or end with there, is split at its anchors, and the rest of it becomes hunks
     // that differ.
     #[tactic(auto)]
-    pub(super) fn advance<C: CompareBytes>(
+    pub(super) fn advance<T: Tokenizer, C: CompareBytes>(
         &mut self,
         alloc: Global,
-        tokenizer: Tokenizer,
+        tokenizer: &T,
         inputs: &[&'a [u8]],
         starts: &[usize],
         ends: &[usize],
     ) -> Result<(), AllocError>
         requires some { 0 < length inputs.now }
-        requires progress { IsProgress C.canonical tokenizer (bytes_of inputs.now)
+        requires progress { IsProgress C.canonical (T.is_end tokenizer.now) (bytes_of inputs.now)
             self.old.hunks.items self.old.from.items self.old.at.items }
         requires gap { (self.old.hunks.items ≡ []) ⊎ HasGap (bytes_of inputs.now)
             self.old.from.items self.old.at.items }
         requires ranges { AreRanges (bytes_of inputs.now) self.old.at.items starts.now }
-        requires cuts { AreCuts tokenizer (bytes_of inputs.now) starts.now }
-        requires next { IsMatch C.canonical tokenizer (bytes_of inputs.now) starts.now ends.now }
-        ensures progress { OnOk result (IsProgress C.canonical tokenizer (bytes_of inputs.now)
-            self.new.hunks.items self.new.from.items self.new.at.items) }
+        requires cuts { AreCuts (T.is_end tokenizer.now) (bytes_of inputs.now) starts.now }
+        requires next { IsMatch C.canonical (T.is_end tokenizer.now) (bytes_of inputs.now)
+            starts.now ends.now }
+        ensures progress { OnOk result (IsProgress C.canonical (T.is_end tokenizer.now)
+            (bytes_of inputs.now) self.new.hunks.items self.new.from.items self.new.at.items) }
         ensures at { OnOk result (self.new.at.items ≡ ends.now) }
         ensures from { OnOk result
             (AreRanges (bytes_of inputs.now) self.new.from.items starts.now) }
@@ -252,10 +256,10 @@ impl<'a> Progress<'a> {
                 let region = anchor_region(alloc, inputs, &gap, &anchor)?;
                 let first = region.starts.as_slice();
                 let last = region.ends.as_slice();
-                self.advance::<C>(alloc, tokenizer, inputs, first, last)?;
-                self.advance::<C>(alloc, tokenizer, inputs, starts, ends)
+                self.advance::<T, C>(alloc, tokenizer, inputs, first, last)?;
+                self.advance::<T, C>(alloc, tokenizer, inputs, starts, ends)
             }
-            None => self.pass::<C>(alloc, tokenizer, inputs, gap, row, starts, ends),
+            None => self.pass::<T, C>(alloc, tokenizer, inputs, gap, row, starts, ends),
         }
     }
 }

@@ -13,14 +13,14 @@ use super::tokens::Tokenizer;
 use std::alloc::{AllocError, Global};
 
 // Compares the parts of a hunk that differs. A hunk that matches stays as it is.
-fn refine_hunk<'a, C: CompareBytes>(
+fn refine_hunk<'a, T: Tokenizer, C: CompareBytes>(
     alloc: Global,
-    tokenizer: Tokenizer,
+    tokenizer: &T,
     compare: &C,
     hunk: &DiffHunk<'a>,
 ) -> Result<Vec<DiffHunk<'a>>, AllocError>
     ensures { IfOk result
-        (λ hunks. IsRefinement C.canonical tokenizer hunk.now hunks.items) }
+        (λ hunks. IsRefinement C.canonical (T.is_end tokenizer.now) hunk.now hunks.items) }
 {
     if hunk.kind == DiffHunkKind::Different {
         let regions = find_compared_regions(alloc, tokenizer, compare, &hunk.contents, 0)?;
@@ -37,14 +37,14 @@ fn refine_hunk<'a, C: CompareBytes>(
 
 // Returns the refinements of the hunks, one after the other.
 #[tactic(auto, using(crate::proofs::Joining::part_steps))]
-fn hunk_refinements<'a, C: CompareBytes>(
+fn hunk_refinements<'a, T: Tokenizer, C: CompareBytes>(
     alloc: Global,
-    tokenizer: Tokenizer,
+    tokenizer: &T,
     compare: &C,
     hunks: &[DiffHunk<'a>],
 ) -> Result<Vec<DiffHunk<'a>>, AllocError>
     ensures { IfOk result
-        (λ refined. AreRefinements C.canonical tokenizer hunks.now refined.items) }
+        (λ refined. AreRefinements C.canonical (T.is_end tokenizer.now) hunks.now refined.items) }
 {
     let mut refined = Vec::new(alloc);
     for hunk in hunks {
@@ -177,15 +177,15 @@ fn join_hunks<'a>(
 
 // Returns the hunks, of which each that differs is replaced by a comparison of its parts. Adjacent
 // hunks that match are joined.
-pub(super) fn refine_hunks<'a, C: CompareBytes>(
+pub(super) fn refine_hunks<'a, T: Tokenizer, C: CompareBytes>(
     alloc: Global,
-    tokenizer: Tokenizer,
+    tokenizer: &T,
     compare: &C,
     inputs: &[&'a [u8]],
     hunks: &[DiffHunk<'a>],
 ) -> Result<Vec<DiffHunk<'a>>, AllocError>
     ensures { IfOk result (λ refined. AreHunksOf (bytes_of inputs.now) hunks.now
-        → IsRefined C.canonical tokenizer hunks.now refined.items) }
+        → IsRefined C.canonical (T.is_end tokenizer.now) hunks.now refined.items) }
 {
     let parts = hunk_refinements(alloc, tokenizer, compare, hunks)?;
     let refined = join_hunks(alloc, inputs, &parts)?;

@@ -154,9 +154,9 @@ fn forms_of<C: CompareBytes>(
 
 /// Returns the regions of tokens that are equal under the comparison. Input `base` is compared with
 /// each other one.
-pub fn find_compared_regions<C: CompareBytes>(
+pub fn find_compared_regions<T: Tokenizer, C: CompareBytes>(
     alloc: Global,
-    tokenizer: Tokenizer,
+    tokenizer: &T,
     compare: &C,
     inputs: &[&[u8]],
     base: usize,

@@ -6,7 +6,7 @@ ghost use Rattle.jj_diff.specs.Ends.{IsWithin};
 ghost use Rattle.jj_diff.specs.Hunks.{AreCuts, AreLimits, AreMoved, AreMovedBack, AreSums};
 
 use super::compare::CompareBytes;
-use super::tokens::Tokenizer;
+use super::tokens::{Tokenizer, is_cut};
 use std::alloc::{AllocError, Global};
 
 // Returns part number `index` of the row, or an empty one if there is none.
@@ -60,14 +60,14 @@ pub(super) fn are_ranges(inputs: &[&[u8]], starts: &[usize], ends: &[usize]) -> 
     true
 }
 
-pub(super) fn are_cuts(tokenizer: Tokenizer, inputs: &[&[u8]], offsets: &[usize]) -> bool
+pub(super) fn are_cuts<T: Tokenizer>(tokenizer: &T, inputs: &[&[u8]], offsets: &[usize]) -> bool
     requires len { length offsets.now ≡ length inputs.now }
     requires within { (i : ℕ) → i < length inputs.now
         → slice_index offsets.now i ≤ length (slice_index_or (bytes_of inputs.now) i []) }
-    ensures { IsTrue result → AreCuts tokenizer (bytes_of inputs.now) offsets.now }
+    ensures { IsTrue result → AreCuts (T.is_end tokenizer.now) (bytes_of inputs.now) offsets.now }
 {
     for index in 0..inputs.len() {
-        if !tokenizer.is_cut(inputs[index], offsets[index]) {
+        if !is_cut(tokenizer, inputs[index], offsets[index]) {
             return false;
         }
     }

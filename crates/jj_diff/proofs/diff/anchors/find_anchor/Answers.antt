@@ -1,4 +1,4 @@
 use Rattle.jj_diff.proofs.diff.anchors.find_anchor.Goals as goal
 
 pub returns-clause-none : goal.returns-clause-none
-returns-clause-none c = λ e few. c.in_ok-found.ensures.none e
+returns-clause-none g c = λ e few. c.in_ok-found.ensures.none e

@@ -4,15 +4,15 @@ use Rattle.jj_diff.proofs.Rows.{length-bytes_of}
 use Rattle.jj_diff.proofs.diff.common.are_end_cuts.Goals as goal
 
 pub overflow_sub-inputs : goal.overflow_sub-inputs
-overflow_sub-inputs c = within_at c.args.inputs.now c.args.len c.loop-index.index c.loop-index-test.true c.requires
+overflow_sub-inputs g c = within_at c.args.inputs.now c.args.len c.loop-index.index c.loop-index-test.true c.requires
 
 pub returns-then-not-is_cut-clause-no_cuts : goal.returns-then-not-is_cut-clause-no_cuts
-returns-then-not-is_cut-clause-no_cuts c = λ f cuts.
-    c.if-not-is_cut.ensures.no_cut f (end_cut_at c.args.inputs.now c.args.tokenizer c.args.len c.loop-index.index c.loop-index-test.true cuts)
+returns-then-not-is_cut-clause-no_cuts g c = λ f cuts.
+    c.if-not-is_cut.ensures.no_cut f (end_cut_at c.args.inputs.now (g.T.Tokenizer.is_end c.args.tokenizer.now) c.args.len c.loop-index.index c.loop-index-test.true cuts)
 
 pub loop-index-preserved : goal.loop-index-preserved
-loop-index-preserved c =
-    end_cut_more c.args.inputs.now c.args.tokenizer c.args.len c.loop-index.index c.loop-index.invariant (c.if-not-is_cut.ensures.cut refl)
+loop-index-preserved g c =
+    end_cut_more c.args.inputs.now (g.T.Tokenizer.is_end c.args.tokenizer.now) c.args.len c.loop-index.index c.loop-index.invariant (c.if-not-is_cut.ensures.cut refl)
 
 pub returns-clause-cuts : goal.returns-clause-cuts
-returns-clause-cuts c = λ t i lt. c.loop-index.invariant i (omega (arith, length-bytes_of c.args.inputs.now))
+returns-clause-cuts g c = λ t i lt. c.loop-index.invariant i (omega (arith, length-bytes_of c.args.inputs.now))

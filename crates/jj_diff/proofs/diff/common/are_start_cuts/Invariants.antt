@@ -4,4 +4,4 @@ use Rattle.jj_diff.specs.Tokens.{IsCut}
 use Rattle.jj_diff.proofs.diff.common.are_start_cuts.Given as goal
 
 abbrev pub invariant-loop-index : goal.invariant-loop-index
-invariant-loop-index l = (i : ℕ) → i < l.index → IsCut l.tokenizer (get_or (bytes_of l.inputs) i []) l.len
+invariant-loop-index g l = (i : ℕ) → i < l.index → IsCut (g.T.Tokenizer.is_end l.tokenizer) (get_or (bytes_of l.inputs) i []) l.len

@@ -4,4 +4,4 @@ use Rattle.jj_diff.specs.Ends.{AreStartCuts}
 use Rattle.jj_diff.proofs.diff.common.last_start_cut.Given as goal
 
 abbrev pub invariant-loop-back : goal.invariant-loop-back
-invariant-loop-back l = (n : ℕ) → n ≤ l.most → AreStartCuts l.tokenizer (bytes_of l.inputs) n → n + l.back ≤ l.most
+invariant-loop-back g l = (n : ℕ) → n ≤ l.most → AreStartCuts (g.T.Tokenizer.is_end l.tokenizer) (bytes_of l.inputs) n → n + l.back ≤ l.most

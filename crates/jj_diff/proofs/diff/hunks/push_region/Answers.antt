@@ -13,7 +13,7 @@ advance-requires-clause-next g c = (c.in_ok-fits.ensures c.if-not-fits.false).ne
 
 pub returns-clause-gap : goal.returns-clause-gap
 returns-clause-gap g c =
-    gap_after g.C.CompareBytes.canonical c.args.tokenizer (bytes_of c.args.inputs.now) c.advance.new.self.hunks.items c.advance.new.self.from.items c.advance.new.self.at.items
+    gap_after g.C.CompareBytes.canonical (g.T.Tokenizer.is_end c.args.tokenizer.now) (bytes_of c.args.inputs.now) c.advance.new.self.hunks.items c.advance.new.self.from.items c.advance.new.self.at.items
     c.as_slice-starts.result.now c.as_slice-ends.result.now c.in_ok-advance.ensures.from
     (c.in_ok-fits.ensures c.if-not-fits.false).gap c.in_ok-advance.ensures.at
 

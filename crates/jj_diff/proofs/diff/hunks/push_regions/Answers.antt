@@ -27,7 +27,7 @@ pub advance-requires-clause-cuts : goal.advance-requires-clause-cuts
 advance-requires-clause-cuts g c =
     let from : AreLimits (bytes_of c.args.inputs.now) c.args.len c.as_slice-starts.result.now =
     subst (AreLimits (bytes_of c.args.inputs.now) c.args.len) (sym c.as_slice-starts.ensures.value) c.in_ok-last_starts.ensures in
-    limit_cuts c.args.tokenizer (bytes_of c.args.inputs.now) 0 c.args.len c.as_slice-starts.result.now c.requires.common from
+    limit_cuts (g.T.Tokenizer.is_end c.args.tokenizer.now) (bytes_of c.args.inputs.now) 0 c.args.len c.as_slice-starts.result.now c.requires.common from
 
 pub advance-requires-clause-next : goal.advance-requires-clause-next
 advance-requires-clause-next g c =
@@ -35,7 +35,7 @@ advance-requires-clause-next g c =
     subst (AreLimits (bytes_of c.args.inputs.now) c.args.len) (sym c.as_slice-starts.ensures.value) c.in_ok-last_starts.ensures in
     let to : AreLimits (bytes_of c.args.inputs.now) 0 c.as_slice-ends.result.now =
     subst (AreLimits (bytes_of c.args.inputs.now) 0) (sym c.as_slice-ends.ensures.value) c.in_ok-last_ends.ensures in
-    match_end g.C.CompareBytes.canonical c.args.tokenizer (bytes_of c.args.inputs.now) c.args.len c.as_slice-starts.result.now c.as_slice-ends.result.now c.requires.common from to
+    match_end g.C.CompareBytes.canonical (g.T.Tokenizer.is_end c.args.tokenizer.now) (bytes_of c.args.inputs.now) (g.met.T.Tokenizer.tokens c.args.tokenizer.now) c.args.len c.as_slice-starts.result.now c.as_slice-ends.result.now c.requires.common from to
 
 pub returns-clause-at : goal.returns-clause-at
 returns-clause-at g c =
@@ -50,7 +50,7 @@ returns-clause-from g c =
     let to : AreLimits (bytes_of c.args.inputs.now) 0 c.as_slice-ends.result.now =
     subst (AreLimits (bytes_of c.args.inputs.now) 0) (sym c.as_slice-ends.ensures.value) c.in_ok-last_ends.ensures in
     rw c.in_ok-advance.ensures.at (
-    before_end g.C.CompareBytes.canonical c.args.tokenizer (bytes_of c.args.inputs.now) c.args.len c.advance.new.self.from.items c.as_slice-starts.result.now c.as_slice-ends.result.now
+    before_end g.C.CompareBytes.canonical (g.T.Tokenizer.is_end c.args.tokenizer.now) (bytes_of c.args.inputs.now) c.args.len c.advance.new.self.from.items c.as_slice-starts.result.now c.as_slice-ends.result.now
     c.requires.common c.in_ok-advance.ensures.from from to)
 
 pub returns-clause-start : goal.returns-clause-start

@@ -7,11 +7,11 @@ use Rattle.jj_diff.proofs.diff.hunks.region_hunks.Goals as goal
 
 pub push_regions-requires-clause-common : goal.push_regions-requires-clause-common
 push_regions-requires-clause-common g c =
-    common_end_zero c.args.tokenizer (bytes_of c.args.inputs.now) c.common_start-start.result c.common_end-end.result c.common_end-end.ensures.common
+    common_end_zero (g.T.Tokenizer.is_end c.args.tokenizer.now) (bytes_of c.args.inputs.now) c.common_start-start.result c.common_end-end.result c.common_end-end.ensures.common
 
 pub push_regions-requires-clause-progress : goal.push_regions-requires-clause-progress
 push_regions-requires-clause-progress g c =
-    progress_start g.C.CompareBytes.canonical c.args.tokenizer (bytes_of c.args.inputs.now) c.common_start-start.result c.in_ok-progress.progress.hunks.items c.in_ok-progress.progress.from.items c.in_ok-progress.progress.at.items
+    progress_start g.C.CompareBytes.canonical (g.T.Tokenizer.is_end c.args.tokenizer.now) (bytes_of c.args.inputs.now) c.common_start-start.result c.in_ok-progress.progress.hunks.items c.in_ok-progress.progress.from.items c.in_ok-progress.progress.at.items
     c.common_start-start.ensures.common c.in_ok-progress.ensures.from c.in_ok-progress.ensures.at c.in_ok-progress.ensures.hunks
 
 pub push_regions-requires-clause-gap : goal.push_regions-requires-clause-gap
@@ -19,7 +19,7 @@ push_regions-requires-clause-gap g c = inl c.in_ok-progress.ensures.hunks
 
 pub push_regions-requires-clause-ranges : goal.push_regions-requires-clause-ranges
 push_regions-requires-clause-ranges g c =
-    ranges_between_ends g.C.CompareBytes.canonical c.args.tokenizer (bytes_of c.args.inputs.now) c.common_start-start.result c.common_end-end.result c.in_ok-progress.progress.at.items c.in_ok-progress.ensures.at c.common_end-end.ensures.common
+    ranges_between_ends g.C.CompareBytes.canonical (g.T.Tokenizer.is_end c.args.tokenizer.now) (bytes_of c.args.inputs.now) c.common_start-start.result c.common_end-end.result c.in_ok-progress.progress.at.items c.in_ok-progress.ensures.at c.common_end-end.ensures.common
 
 pub push_matching-requires-clause-prefix : goal.push_matching-requires-clause-prefix
 push_matching-requires-clause-prefix g c = rw c.deref.ensures.value c.in_ok-push_regions.ensures.progress.prefix
@@ -32,17 +32,17 @@ pub returns-clause-diff : goal.returns-clause-diff
 returns-clause-diff g c =
     let to : AreLimits (bytes_of c.args.inputs.now) 0 c.deref-2.result.now =
     subst (AreLimits (bytes_of c.args.inputs.now) 0) (sym c.deref-2.ensures.value) c.in_ok-push_regions.ensures.at in
-    whole_at g.C.CompareBytes.canonical c.args.tokenizer (bytes_of c.args.inputs.now) c.push_matching.new.hunks.items c.deref-2.result.now to c.in_ok-push_matching.ensures.prefix
+    whole_at g.C.CompareBytes.canonical (g.T.Tokenizer.is_end c.args.tokenizer.now) (bytes_of c.args.inputs.now) c.push_matching.new.hunks.items c.deref-2.result.now to c.in_ok-push_matching.ensures.prefix
 
 pub returns-clause-ends : goal.returns-clause-ends
 returns-clause-ends g c =
     let some : 0 < length (bytes_of c.args.inputs.now) = omega (arith, c.requires, length-bytes_of c.args.inputs.now) in
     let first : StartsWith c.common_start-start.result c.push_regions.new.progress.hunks.items c.push_regions.new.progress.at.items =
     c.in_ok-push_regions.ensures.start c.common_start-start.result (
-    start_at g.C.CompareBytes.canonical c.args.tokenizer (bytes_of c.args.inputs.now) c.common_start-start.result c.in_ok-progress.progress.hunks.items c.in_ok-progress.progress.at.items some c.in_ok-progress.ensures.at c.in_ok-progress.ensures.hunks) in
+    start_at g.C.CompareBytes.canonical (g.T.Tokenizer.is_end c.args.tokenizer.now) (bytes_of c.args.inputs.now) c.common_start-start.result c.in_ok-progress.progress.hunks.items c.in_ok-progress.progress.at.items some c.in_ok-progress.ensures.at c.in_ok-progress.ensures.hunks) in
     let start : StartsWith c.common_start-start.result c.push_regions.new.progress.hunks.items c.deref-2.result.now = rw c.deref-2.ensures.value first in
     let end : get_or c.deref.result.now 0 0 + c.common_end-end.result ≤ get_or c.deref-2.result.now 0 0 =
     rw (c.deref.ensures.value, c.deref-2.ensures.value) c.in_ok-push_regions.ensures.from in
-    matches_ends c.args.tokenizer (bytes_of c.args.inputs.now) c.push_matching.new.hunks.items c.common_start-start.result c.common_end-end.result
+    matches_ends (g.T.Tokenizer.is_end c.args.tokenizer.now) (bytes_of c.args.inputs.now) c.push_matching.new.hunks.items c.common_start-start.result c.common_end-end.result
     (c.in_ok-push_matching.ensures.start c.common_start-start.result start) c.common_start-start.ensures.longest
     (c.in_ok-push_matching.ensures.end c.common_end-end.result end) c.common_end-end.ensures.longest

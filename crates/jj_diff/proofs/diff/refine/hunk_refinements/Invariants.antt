@@ -4,5 +4,5 @@ use Rattle.jj_diff.proofs.diff.refine.hunk_refinements.Given as goal
 
 abbrev pub invariant-loop-hunk : goal.invariant-loop-hunk
 invariant-loop-hunk g l = record {
-  refined : AreRefinements g.C.CompareBytes.canonical l.tokenizer (take l.hunk-index l.hunks) l.refined.items;
+  refined : AreRefinements g.C.CompareBytes.canonical (g.T.Tokenizer.is_end l.tokenizer) (take l.hunk-index l.hunks) l.refined.items;
 }

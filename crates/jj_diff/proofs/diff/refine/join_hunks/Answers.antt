@@ -1,4 +1,4 @@
-use Rattle.std.proofs.Common.{rules, ◌≡◌, ℕ, ◌+◌, ◌-◌, ◌<◌, List, length, map, reverse, drop, get_or, ap, ◌∙◌, subst, arith}
+use Rattle.std.proofs.Common.{◌≡◌, ℕ, ◌+◌, ◌-◌, ◌<◌, List, length, map, reverse, drop, get_or, ap, ◌∙◌, subst, arith}
 use Rattle.jj_diff.specs.declared.diff.hunks.DiffHunk.{DiffHunk}
 use Rattle.jj_diff.specs.Inputs.{bytes_of}
 use Rattle.jj_diff.specs.Refined.{AreHunksOf, joined, view_of}

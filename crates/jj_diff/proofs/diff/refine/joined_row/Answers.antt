@@ -1,6 +1,5 @@
-use Rattle.std.proofs.Common.{◌≡◌, ◌++◌, ℕ, [], ◌∷◌, length, get_or, ap, sym, arith, length-append}
+use Rattle.std.proofs.Common.{◌++◌, [], ◌∷◌, length, get_or, ap, sym, arith, length-append}
 use Rattle.jj_diff.specs.Inputs.{bytes_of}
-use Rattle.jj_diff.specs.Refined.{AreAdjacent}
 use Rattle.jj_diff.proofs.Rows.{none, none_at, parts_push, length-bytes_of}
 use Rattle.jj_diff.proofs.Joining.{part_here}
 use Rattle.jj_diff.proofs.diff.refine.joined_row.Goals as goal

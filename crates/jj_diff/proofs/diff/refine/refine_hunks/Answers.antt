@@ -10,5 +10,5 @@ returns g c = λ of.
     → map view_of c.in_ok-refined.refined.items ≡ joined (map view_of c.in_ok-parts.parts.items) = rw c.deref.ensures.value at c.in_ok-refined.ensures in (
       c.in_ok-parts.parts.items,
       c.in_ok-parts.ensures,
-      join (hunks_of_parts g.C.CompareBytes.canonical c.args.tokenizer (bytes_of c.args.inputs.now) c.args.hunks.now c.in_ok-parts.parts.items c.in_ok-parts.ensures of),
+      join (hunks_of_parts g.C.CompareBytes.canonical (g.T.Tokenizer.is_end c.args.tokenizer.now) (bytes_of c.args.inputs.now) c.args.hunks.now c.in_ok-parts.parts.items c.in_ok-parts.ensures of),
     )

@@ -9,30 +9,30 @@ returns-clause-refined g c = rw (c.deref.ensures.value, c.deref-2.ensures.value)
 
 pub returns-clause-diff : goal.returns-clause-diff
 returns-clause-diff g c =
-    let r : AreHunksOf (bytes_of c.args.self.now.inputs.items) c.args.self.now.hunks.items → IsRefined g.C.CompareBytes.canonical c.args.tokenizer c.args.self.now.hunks.items c.in_ok-hunks.hunks.items =
+    let r : AreHunksOf (bytes_of c.args.self.now.inputs.items) c.args.self.now.hunks.items → IsRefined g.C.CompareBytes.canonical (g.T.Tokenizer.is_end c.args.tokenizer.now) c.args.self.now.hunks.items c.in_ok-hunks.hunks.items =
     rw (c.deref.ensures.value, c.deref-2.ensures.value) at c.in_ok-hunks.ensures in
-    diff_of g.C.CompareBytes.canonical c.args.tokenizer (bytes_of c.args.self.now.inputs.items) c.args.self.now.hunks.items c.in_ok-hunks.hunks.items r g.met.C.CompareBytes.joins
+    diff_of g.C.CompareBytes.canonical (g.T.Tokenizer.is_end c.args.tokenizer.now) (bytes_of c.args.self.now.inputs.items) c.args.self.now.hunks.items c.in_ok-hunks.hunks.items r (g.met.T.Tokenizer.tokens c.args.tokenizer.now) g.met.C.CompareBytes.joins
 
 pub returns-clause-kept : goal.returns-clause-kept
 returns-clause-kept g c =
-    let r : AreHunksOf (bytes_of c.args.self.now.inputs.items) c.args.self.now.hunks.items → IsRefined g.C.CompareBytes.canonical c.args.tokenizer c.args.self.now.hunks.items c.in_ok-hunks.hunks.items =
+    let r : AreHunksOf (bytes_of c.args.self.now.inputs.items) c.args.self.now.hunks.items → IsRefined g.C.CompareBytes.canonical (g.T.Tokenizer.is_end c.args.tokenizer.now) c.args.self.now.hunks.items c.in_ok-hunks.hunks.items =
     rw (c.deref.ensures.value, c.deref-2.ensures.value) at c.in_ok-hunks.ensures in
-    keeps_of g.C.CompareBytes.canonical c.args.tokenizer (bytes_of c.args.self.now.inputs.items) c.args.self.now.hunks.items c.in_ok-hunks.hunks.items r
+    keeps_of g.C.CompareBytes.canonical (g.T.Tokenizer.is_end c.args.tokenizer.now) (bytes_of c.args.self.now.inputs.items) c.args.self.now.hunks.items c.in_ok-hunks.hunks.items r
 
 pub returns-clause-ends : goal.returns-clause-ends
 returns-clause-ends g c =
-    let r : AreHunksOf (bytes_of c.args.self.now.inputs.items) c.args.self.now.hunks.items → IsRefined g.C.CompareBytes.canonical c.args.tokenizer c.args.self.now.hunks.items c.in_ok-hunks.hunks.items =
+    let r : AreHunksOf (bytes_of c.args.self.now.inputs.items) c.args.self.now.hunks.items → IsRefined g.C.CompareBytes.canonical (g.T.Tokenizer.is_end c.args.tokenizer.now) c.args.self.now.hunks.items c.in_ok-hunks.hunks.items =
     rw (c.deref.ensures.value, c.deref-2.ensures.value) at c.in_ok-hunks.ensures in
-    ends_of g.C.CompareBytes.canonical c.args.tokenizer (bytes_of c.args.self.now.inputs.items) c.args.self.now.hunks.items c.in_ok-hunks.hunks.items r
+    ends_of g.C.CompareBytes.canonical (g.T.Tokenizer.is_end c.args.tokenizer.now) (bytes_of c.args.self.now.inputs.items) c.args.self.now.hunks.items c.in_ok-hunks.hunks.items r
 
 pub returns-clause-trimmed : goal.returns-clause-trimmed
 returns-clause-trimmed g c =
-    let r : AreHunksOf (bytes_of c.args.self.now.inputs.items) c.args.self.now.hunks.items → IsRefined g.C.CompareBytes.canonical c.args.tokenizer c.args.self.now.hunks.items c.in_ok-hunks.hunks.items =
+    let r : AreHunksOf (bytes_of c.args.self.now.inputs.items) c.args.self.now.hunks.items → IsRefined g.C.CompareBytes.canonical (g.T.Tokenizer.is_end c.args.tokenizer.now) c.args.self.now.hunks.items c.in_ok-hunks.hunks.items =
     rw (c.deref.ensures.value, c.deref-2.ensures.value) at c.in_ok-hunks.ensures in
-    trimmed_of g.C.CompareBytes.canonical c.args.tokenizer (bytes_of c.args.self.now.inputs.items) c.args.self.now.hunks.items c.in_ok-hunks.hunks.items r
+    trimmed_of g.C.CompareBytes.canonical (g.T.Tokenizer.is_end c.args.tokenizer.now) (bytes_of c.args.self.now.inputs.items) c.args.self.now.hunks.items c.in_ok-hunks.hunks.items r
 
 pub returns-clause-identity : goal.returns-clause-identity
 returns-clause-identity g c =
-    let r : AreHunksOf (bytes_of c.args.self.now.inputs.items) c.args.self.now.hunks.items → IsRefined g.C.CompareBytes.canonical c.args.tokenizer c.args.self.now.hunks.items c.in_ok-hunks.hunks.items =
+    let r : AreHunksOf (bytes_of c.args.self.now.inputs.items) c.args.self.now.hunks.items → IsRefined g.C.CompareBytes.canonical (g.T.Tokenizer.is_end c.args.tokenizer.now) c.args.self.now.hunks.items c.in_ok-hunks.hunks.items =
     rw (c.deref.ensures.value, c.deref-2.ensures.value) at c.in_ok-hunks.ensures in
-    matching_of g.C.CompareBytes.canonical c.args.tokenizer (bytes_of c.args.self.now.inputs.items) c.args.self.now.hunks.items c.in_ok-hunks.hunks.items r
+    matching_of g.C.CompareBytes.canonical (g.T.Tokenizer.is_end c.args.tokenizer.now) (bytes_of c.args.self.now.inputs.items) c.args.self.now.hunks.items c.in_ok-hunks.hunks.items r
