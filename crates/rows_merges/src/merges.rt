@@ -307,6 +307,19 @@ fn into_legacy(alloc: Global, request: &Request, values: &mut Values) -> Result<
     Ok(())
 }
 
+// `merge-present TERMS`: the present removes and the present adds.
+fn present(request: &Request, values: &mut Values) -> Result<(), RowError> {
+    let whole = merge_of_options(request.group(0))?;
+    for string in whole.present_removes() {
+        values.string(string.as_str());
+    }
+    values.word("|");
+    for string in whole.present_adds() {
+        values.string(string.as_str());
+    }
+    Ok(())
+}
+
 // `merge-options TERMS`: whether the merge is absent, and whether it is present.
 fn options(request: &Request, values: &mut Values) -> Result<(), RowError> {
     let whole = merge_of_options(request.group(0))?;
@@ -374,7 +387,8 @@ fn diff(alloc: Global, request: &Request, values: &mut Values) -> Result<(), Row
     agree(
         diff.as_ref() == Diff::new(&diff.before, &diff.after),
         "as_ref",
-    )
+    )?;
+    agree(diff_of(fields)?.as_deref() == diff, "as_deref")
 }
 
 fn put_json(alloc: Global, whole: &Merge<String>, values: &mut Values) -> Result<(), RowError> {
@@ -414,6 +428,7 @@ fn call_constructor(alloc: Global, name: &str, request: &Request, values: &mut V
         "merge-from-legacy" => from_legacy(alloc, request, values),
         "merge-into-legacy" => into_legacy(alloc, request, values),
         "merge-options" => options(request, values),
+        "merge-present" => present(request, values),
         "merge-from-diffs" => from_diffs(alloc, request, values),
         "merge-map" => map(alloc, request, values),
         "merge-content" => content(alloc, request, values),
