@@ -1,11 +1,13 @@
 -- Runs over readers and writers in memory.
-use Rattle.std.proofs.Common.{◌≡◌, ◌∙◌, ◌⊎◌, ℕ, List, [], Option, None, Some, Result, Ok, Err, true, refl, inl, inr}
+use Rattle.std.proofs.Common.{◌≡◌, ◌≢◌, ◌∙◌, ◌⊎◌, ℕ, List, [], Option, None, Some, Result, Ok, Err, true, refl, sym, inl, inr}
 use Rattle.std.specs.Prelude.{IfSome, MatchOption}
 use Rattle.std.specs.Str.{IsUtf8, is_utf8}
 use Rattle.std.proofs.lemmas.Str.{is_utf8-from_IsUtf8}
+use Rattle.std.specs.IoError.{error_kind}
+use Rattle.std.specs.declared.io.ErrorKind.TheVariants.{BrokenPipe, OutOfMemory}
 use Rattle.jj_files.specs.Streams.{streams}
 use Rattle.jj_filter.specs.Reports.{failure_status}
-use Rattle.jj_filter.specs.Runs.{EndsBy}
+use Rattle.jj_filter.specs.Runs.{ClosesBy, EndsBy}
 use Rattle.jj_filter.specs.declared.failure.Failure.{Failure}
 use Rattle.jj_filter.specs.declared.failure.Failure.TheVariants.{ReadInput, Memory, WriteOutput, Input}
 use Rattle.jj_filter.proofs.InMemory.{failed, wrote}
@@ -21,6 +23,16 @@ use Rattle.jj_program_tests.specs.Outputs.{CanFailBy, IsFaultOfWalk, IsRunOf}
 -- the result on a string's bytes is the result on the string
 pub text_gives : (command : Command) (text : List ℕ) (answer : Result (List ℕ) Fault) → IsUtf8 text → HasResult command text answer → HasResultOnText command text answer
 text_gives command text answer utf8 given = let e : is_utf8 text ≡ true = is_utf8-from_IsUtf8 text utf8 in rw e at given
+
+-- a sink is not closed if each of its errors is out of memory
+pub not_closed : (O : Type 0) {F : Type 0} (failure : Failure F) → ClosesBy {O = O} (λ e. error_kind e ≡ OutOfMemory) (Err failure) → failure ≢ WriteOutput true
+not_closed O (WriteOutput is_closed) (e, memory, closed) is =
+    let closed_now : is_closed ≡ true = cc in
+    let same : OutOfMemory ≡ BrokenPipe = sym memory ∙ closed.0 closed_now in
+    cc same
+not_closed O ReadInput h is = cc is
+not_closed O Memory h is = cc is
+not_closed O (Input fault) h is = cc is
 
 -- the fault of a walk is determined by its input
 pub walk_fault : FaultsAreOfFirstKinds → (text : List ℕ) → IsUtf8 text → (failure : Failure FaultReport) → CanFailBy Walk text failure → IsFaultOfWalk text failure

@@ -1,5 +1,6 @@
 //! Proved callers: running a command on an input in memory.
-ghost use Rattle.std.specs.Prelude.{◌≡◌, [], IfErr, IfOk, MatchOption, Ok, map, string_bytes};
+ghost use Rattle.std.specs.Prelude.{◌≡◌, ◌≢◌, [], IfErr, IfOk, MatchOption, Ok, map, string_bytes, true};
+ghost use Rattle.jj_filter.specs.declared.failure.Failure.{Failure};
 ghost use Rattle.jj_program.specs.Program.{HasResult, command_line};
 ghost use Rattle.jj_program_tests.specs.Outputs.{CanFailBy, FindsFiles, IsFaultOfWalk, IsRunOf};
 
@@ -10,7 +11,8 @@ use jj_program::laws::{faults_are_of_first_kinds, walks_find_their_files};
 use jj_program::program::{Command, FaultReport, start};
 use std::alloc::Global;
 
-/// Returns the output of a command for these bytes.
+/// Returns the output of a command for these bytes. An output in memory is never reported as
+/// closed.
 pub fn output_of(
     alloc: Global,
     command: Command,
@@ -18,6 +20,7 @@ pub fn output_of(
 ) -> Result<Vec<u8>, Failure<FaultReport>>
     ensures done { IfOk result (λ output. HasResult command input.now (Ok output.items)) }
     ensures fails { IfErr result (CanFailBy command input.now) }
+    ensures never_closed { IfErr result (λ failure. failure ≢ Failure.WriteOutput true) }
 {
     let mut reader = Watched::new(input);
     let mut writer = Watched::new(Vec::new(alloc));
