@@ -1,5 +1,5 @@
 -- Fields of two tables, and the hunks of their comparison.
-use Rattle.std.proofs.Common.{◌≡◌, ◌⊎◌, ℕ, ◌-◌, ◌<◌, ◌≤◌, ◌==◌, ◌||◌, List, [], ◌∷◌, ◌++◌, length, get_or, refl, ap, sym, ◌∙◌, arith, lit<, inl, inr, length-append, eqb-true, Bool, true, false}
+use Rattle.std.proofs.Common.{◌≡◌, ◌⊎◌, ℕ, ◌-◌, ◌≤◌, ◌==◌, ◌||◌, List, [], ◌∷◌, ◌++◌, length, get_or, refl, ap, sym, ◌∙◌, arith, lit<, inl, inr, length-append, eqb-true, Bool, true, false}
 use Rattle.std.proofs.lemmas.Bool.{cases_lt, or_cases, eq-eqb}
 use Rattle.std.proofs.lemmas.List.{get_or_append_left, nil_from_length}
 use Rattle.jj_diff.specs.declared.diff.hunks.DiffHunk.{DiffHunk}

@@ -1,4 +1,3 @@
-use Rattle.jj_diff.specs.Tokens.{is_line_end}
 use Rattle.contracts_diffs.proofs.Ends.{start_matches}
 use Rattle.contracts_diffs.proofs.files.compare_versions.Goals as goal
 
