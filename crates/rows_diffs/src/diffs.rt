@@ -119,6 +119,7 @@ fn ignoring(alloc: Global, request: &Request, values: &mut Values) -> Result<(),
 }
 
 // Tokens that end with this byte, or with the input.
+#[derive(Drop)]
 struct EndedBy {
     byte: u8,
 }
