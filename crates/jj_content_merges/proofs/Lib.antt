@@ -1,5 +1,6 @@
 pub mod Parts
 pub mod Joining
+pub mod Splitting
 pub mod Resolving
 pub mod MeasureLaws
 pub mod SideLaws

@@ -1,17 +1,15 @@
 -- Trivial resolution of borrowed byte strings, and of their bytes.
-use Rattle.std.proofs.Common.{◌≡◌, ◌≢◌, ℕ, ◌+◌, ◌<◌, ◌≤◌, ◌%◌, suc, zero, Bool, true, false, List, [], ◌∷◌, ◌++◌, length, map, take, get_or, Bor, refl, ap, sym, ◌∙◌, subst, arith, All, inl, inr, cond}
+use Rattle.std.proofs.Common.{◌≡◌, ◌≢◌, ℕ, ◌+◌, ◌<◌, ◌≤◌, ◌%◌, suc, zero, Bool, true, false, List, [], ◌∷◌, ◌++◌, length, map, take, get_or, Bor, refl, ap, sym, ◌∙◌, subst, arith, All, inl, inr, cond, Vec, Global}
 use Rattle.std.proofs.lemmas.Int.{ints}
 use Rattle.std.proofs.lemmas.Slice.Eq.{bytes_eq-Decides}
 use Rattle.std.specs.Prelude.{count_by, pos, ◌-ℤ◌, ◌<ℤ◌}
 use Rattle.std.specs.Str.{bytes_eq}
 use Rattle.std.specs.List.{fold, AllZip}
-use Rattle.std.proofs.lemmas.List.{take_more, take_all, length-map, append-nil, map_push}
+use Rattle.std.proofs.lemmas.List.{get_or-map, take_more, take_all, length-map, append-nil, map_push}
 use Rattle.std.proofs.lemmas.List.Elements.{AllZip-push, All-map, All-nil, All-cons}
-use Rattle.jj_diff.specs.declared.diff.hunks.DiffHunk.{DiffHunk}
 use Rattle.jj_diff.specs.Inputs.{bytes_of, side}
 use Rattle.jj_diff.specs.Tokens.{is_line_end, is_word_end, IsCut, TokenEnds}
 use Rattle.jj_diff.specs.Tokenizers.{line_tokens}
-use Rattle.jj_diff.specs.Hunks.{row_of, IsDiff}
 use Rattle.jj_merges.specs.declared.merge.SameChange.{SameChange}
 use Rattle.jj_merges.specs.declared.merge.SameChange.TheVariants.{Keep, Accept}
 use Rattle.jj_merges.specs.Merge.{adds, removes, signed_count, IsOdd}
@@ -19,6 +17,7 @@ use Rattle.jj_merges.specs.Resolution.{ResolvesTo}
 use Rattle.jj_content_merges.specs.declared.files.hunks.MergeHunk.{MergeHunk}
 use Rattle.jj_content_merges.specs.declared.files.FileMergeHunkLevel.{FileMergeHunkLevel}
 use Rattle.jj_content_merges.specs.Hunks.{all_resolved, merged_side}
+use Rattle.jj_content_merges.specs.Rows.{parts_of, rows_of}
 use Rattle.jj_content_merges.specs.Files.{terms_of, IsSplit, Outcomes, IsTokenMerge, IsWordMerge, IsHunk, IsContentMerge}
 
 abbrev pub Text : Type 0
@@ -69,32 +68,27 @@ module _ (m : List Text) where
     (λ x y lt mt. r.2 x.now y.now (subst (λ z. z <ℤ pos 0) (counts x) lt) (subst (λ z. z <ℤ pos 0) (counts y) mt)),
   )
 
--- one more hunk
-pub zip_push : (R : List (List ℕ) → List (List ℕ) → Type 0) (hs : List DiffHunk) (i : ℕ) (h : DiffHunk)
-    (ms : List MergeHunk) (m : MergeHunk) → i < length hs → h ≡ get_or hs i h
-    → AllZip R (map row_of (take i hs)) (map terms_of ms) → R (row_of h) (terms_of m)
-    → AllZip R (map row_of (take (i + 1) hs)) (map terms_of (ms ++ m ∷ []))
-zip_push R hs i h ms m lt e before here =
-    let rows : map row_of (take (i + 1) hs) ≡ map row_of (take i hs) ++ row_of h ∷ [] =
-    ap (map row_of) (take_more hs i h lt ∙ ap (λ x. take i hs ++ x ∷ []) (sym e)) ∙ map_push row_of (take i hs) h in
+-- one more hunk of what has rows as views
+pub zip_push : {H : Type 0} (view : H → List (List ℕ)) (R : List (List ℕ) → List (List ℕ) → Type 0)
+    (hs : List H) (i : ℕ) (h : H) (ms : List MergeHunk) (m : MergeHunk) → i < length hs → h ≡ get_or hs i h
+    → AllZip R (map view (take i hs)) (map terms_of ms) → R (view h) (terms_of m)
+    → AllZip R (map view (take (i + 1) hs)) (map terms_of (ms ++ m ∷ []))
+zip_push view R hs i h ms m lt e before here =
+    let rows : map view (take (i + 1) hs) ≡ map view (take i hs) ++ view h ∷ [] =
+    ap (map view) (take_more hs i h lt ∙ ap (λ x. take i hs ++ x ∷ []) (sym e)) ∙ map_push view (take i hs) h in
     let terms : map terms_of (ms ++ m ∷ []) ≡ map terms_of ms ++ terms_of m ∷ [] = map_push terms_of ms m in
     subst (λ xs. AllZip R xs (map terms_of (ms ++ m ∷ []))) (sym rows)
-    (subst (λ ys. AllZip R (map row_of (take i hs) ++ row_of h ∷ []) ys) (sym terms)
-    (AllZip-push R (map row_of (take i hs)) (map terms_of ms) (row_of h) (terms_of m) before here))
+    (subst (λ ys. AllZip R (map view (take i hs) ++ view h ∷ []) ys) (sym terms)
+    (AllZip-push R (map view (take i hs)) (map terms_of ms) (view h) (terms_of m) before here))
 
 pub length-bytes_of : (m : List Text) → length (bytes_of m) ≡ length m
 length-bytes_of m = length-map m (λ r. r.now)
 
--- a comparison of an odd number of inputs has odd rows
-pub odd_rows : (is_end : TokenEnds) (inputs : List (List ℕ)) (hs : List DiffHunk) → IsDiff is_end inputs hs
-    → IsOdd (length inputs) → All (λ h. IsOdd (length h.contents.items)) hs
-odd_rows is_end inputs hs diff odd k d lt =
-    subst IsOdd (sym (sym (length-bytes_of (get_or hs k d).contents.items) ∙ (diff.hunks k d lt).len)) odd
-
-take-map : (k : ℕ) (hs : List DiffHunk) → take k (map row_of hs) ≡ map row_of (take k hs)
-take-map zero hs = refl
-take-map (suc k) [] = refl
-take-map (suc k) (h ∷ hs) = ap (λ rows. row_of h ∷ rows) (take-map k hs)
+width_at : (inputs : List (List ℕ)) (rows : List (Vec Text Global)) → All (λ row. length row ≡ length inputs) (rows_of rows)
+    → (k : ℕ) (d : Vec Text Global) → k < length rows → length (bytes_of (get_or rows k d).items) ≡ length inputs
+width_at inputs rows width k d lt =
+    ap length (sym (get_or-map parts_of rows k d (parts_of d) lt))
+    ∙ width k (parts_of d) (omega (arith, length-map rows parts_of))
 
 -- a single row ends where the inputs end
 whole_lines : (inputs : List (List ℕ)) (i k : ℕ)
@@ -105,28 +99,24 @@ whole_lines inputs i (suc zero) =
 whole_lines inputs i (suc (suc k)) =
     subst (λ xs. IsCut is_line_end (get_or inputs i []) (length xs)) (sym (append-nil (get_or inputs i []))) (line_tokens.whole (get_or inputs i []))
 
--- the rows of a comparison
-split_of : (is_end : TokenEnds) (inputs : List (List ℕ)) (hs : List DiffHunk) → IsDiff is_end inputs hs
-    → IsSplit is_end inputs (map row_of hs)
-split_of is_end inputs hs diff = record {
-  width = All-map (λ row. length row ≡ length inputs) row_of hs (λ k d lt. (diff.hunks k d lt).len);
-  sides = diff.sides;
-  cuts = λ k i le lt.
-      subst (λ rows. IsCut is_end (get_or inputs i []) (length (side i rows))) (sym (take-map k hs))
-      (diff.cuts k i (subst (λ n. k ≤ n) (length-map hs row_of) le) lt);
-}
+pub token_merge : (is_end : TokenEnds) (same : SameChange) (inputs : List (List ℕ))
+    (rows : List (Vec Text Global)) (ms : List MergeHunk) → IsSplit is_end inputs (rows_of rows)
+    → Outcomes same (rows_of rows) (map terms_of ms) → IsTokenMerge is_end same inputs (map terms_of ms)
+token_merge is_end same inputs rows ms split outcomes =
+    record { rows = rows_of rows; split = split; outcomes = outcomes }
 
-pub token_merge : (is_end : TokenEnds) (same : SameChange) (inputs : List (List ℕ)) (hs : List DiffHunk)
-    (ms : List MergeHunk) → IsDiff is_end inputs hs → Outcomes same (map row_of hs) (map terms_of ms)
-    → IsTokenMerge is_end same inputs (map terms_of ms)
-token_merge is_end same inputs hs ms diff outcomes =
-    record { rows = map row_of hs; split = split_of is_end inputs hs diff; outcomes = outcomes }
-
-pub content_merge : (level : FileMergeHunkLevel) (same : SameChange) (inputs : List (List ℕ)) (hs : List DiffHunk)
-    (ms : List MergeHunk) → IsDiff is_line_end inputs hs → AllZip (IsHunk level same) (map row_of hs) (map terms_of ms)
+pub content_merge : (level : FileMergeHunkLevel) (same : SameChange) (inputs : List (List ℕ))
+    (rows : List (Vec Text Global)) (ms : List MergeHunk) → IsSplit is_line_end inputs (rows_of rows)
+    → AllZip (IsHunk level same) (rows_of rows) (map terms_of ms)
     → IsContentMerge level same inputs (map terms_of ms)
-content_merge level same inputs hs ms diff outcomes =
-    record { rows = map row_of hs; split = split_of is_line_end inputs hs diff; outcomes = outcomes }
+content_merge level same inputs rows ms split outcomes =
+    record { rows = rows_of rows; split = split; outcomes = outcomes }
+
+-- rows of an odd number of inputs are odd
+pub odd_parts : (is_end : TokenEnds) (inputs : List (List ℕ)) (rows : List (Vec Text Global))
+    → IsSplit is_end inputs (rows_of rows) → IsOdd (length inputs) → All (λ row. IsOdd (length row.items)) rows
+odd_parts is_end inputs rows split odd k d lt =
+    subst IsOdd (sym (sym (length-bytes_of (get_or rows k d).items) ∙ width_at inputs rows split.width k d lt)) odd
 
 one_not_zero : pos 1 ≡ pos 0 → ⊥
 one_not_zero e = grind (arith, ints)
@@ -176,7 +166,7 @@ pub ruleset outcome_steps = (zip_push, take_all)
 
 pub ruleset row_steps = (resolves_bytes, resolves_texts)
 
-pub ruleset merge_steps = (odd_rows, token_merge, content_merge, length-bytes_of)
+pub ruleset merge_steps = (odd_parts, token_merge, content_merge, length-bytes_of)
 
 pub ruleset word_steps = (words_resolved, words_unresolved)
 

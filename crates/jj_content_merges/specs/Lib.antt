@@ -1,4 +1,5 @@
 -- in reading order
 pub mod Hunks
+pub mod Rows
 pub mod Files
 pub mod Measures

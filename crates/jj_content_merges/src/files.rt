@@ -12,6 +12,7 @@ ghost use Rattle.jj_content_merges.specs.Files.{terms_of, IsContentMerge, IsMerg
 mod hunks;
 mod joining;
 mod rows;
+mod splitting;
 
 pub use hunks::MergeHunk;
 use hunks::{are_resolved, side_of, sides_of};

@@ -1,15 +1,16 @@
 //! The outcomes of rows: the part of each term between cuts of a comparison.
 ghost use Rattle.std.specs.Prelude.{◌≡◌, ℕ, length, map, IfOk, All};
 ghost use Rattle.jj_diff.specs.Inputs.{bytes_of};
-ghost use Rattle.jj_diff.specs.Hunks.{row_of};
 ghost use Rattle.jj_diff.specs.Tokens.{is_word_end};
 ghost use Rattle.jj_merges.specs.Merge.{IsOdd};
 ghost use Rattle.std.specs.List.{AllZip};
+ghost use Rattle.jj_content_merges.specs.Rows.{rows_of};
 ghost use Rattle.jj_content_merges.specs.Files.{terms_of, Outcomes, IsOutcome, IsHunk, IsTokenMerge, IsWordMerge, IsContentMerge};
 
 use super::FileMergeHunkLevel;
 use super::hunks::{MergeHunk, are_resolved, side_of};
-use jj_diff::diff::{ContentDiff, DiffHunk, diff_by_line};
+use super::splitting::split_tokens;
+use jj_diff::diff::{Lines, Words};
 use jj_merges::merge::{SameChange, trivial_merge};
 use std::alloc::{AllocError, Global};
 
@@ -29,26 +30,26 @@ fn merge_row<'a>(
     }
 }
 
-// Resolves the rows of a comparison whose signed counts decide them.
+// Resolves the rows whose signed counts decide them.
 #[tactic(auto, using(crate::proofs::Resolving::outcome_steps))]
 fn merge_rows<'a>(
     alloc: Global,
-    hunks: &[DiffHunk<'a>],
+    rows: &[Vec<&'a [u8]>],
     same_change: SameChange,
 ) -> Result<Vec<MergeHunk<'a>>, AllocError>
-    requires { All (λ hunk. IsOdd (length hunk.contents.items)) hunks.now }
+    requires { All (λ row. IsOdd (length row.items)) rows.now }
     ensures { IfOk result
-        (λ merged. Outcomes same_change (map row_of hunks.now) (map terms_of merged.items)) }
+        (λ merged. Outcomes same_change (rows_of rows.now) (map terms_of merged.items)) }
 {
-    let mut merged = Vec::with_capacity(alloc, hunks.len())?;
-    for hunk in hunks {
-        let outcome = merge_row(alloc, &hunk.contents, same_change)?;
+    let mut merged = Vec::with_capacity(alloc, rows.len())?;
+    for row in rows {
+        let outcome = merge_row(alloc, row, same_change)?;
         merged.push(outcome)?;
     }
     Ok(merged)
 }
 
-// Merges a row word by word.
+// Compares each term of a row word by word with the first remove, and merges each row of words.
 #[tactic(auto, using(crate::proofs::Resolving::merge_steps))]
 fn merge_by_words<'a>(
     alloc: Global,
@@ -59,8 +60,8 @@ fn merge_by_words<'a>(
     ensures { IfOk result (λ merged.
         IsTokenMerge is_word_end same_change (bytes_of row.now) (map terms_of merged.items)) }
 {
-    let words = ContentDiff::by_word(alloc, row)?;
-    let merged = merge_rows(alloc, &words.hunks, same_change)?;
+    let rows = split_tokens(alloc, &Words, row, 1)?;
+    let merged = merge_rows(alloc, &rows, same_change)?;
     Ok(merged)
 }
 
@@ -109,23 +110,24 @@ fn merge_hunk<'a>(
 #[tactic(auto, using(crate::proofs::Resolving::outcome_steps))]
 fn merge_lines<'a>(
     alloc: Global,
-    hunks: &[DiffHunk<'a>],
+    rows: &[Vec<&'a [u8]>],
     level: FileMergeHunkLevel,
     same_change: SameChange,
 ) -> Result<Vec<MergeHunk<'a>>, AllocError>
-    requires { All (λ hunk. IsOdd (length hunk.contents.items)) hunks.now }
+    requires { All (λ row. IsOdd (length row.items)) rows.now }
     ensures { IfOk result (λ merged.
-        AllZip (IsHunk level same_change) (map row_of hunks.now) (map terms_of merged.items)) }
+        AllZip (IsHunk level same_change) (rows_of rows.now) (map terms_of merged.items)) }
 {
-    let mut merged = Vec::with_capacity(alloc, hunks.len())?;
-    for hunk in hunks {
-        let outcome = merge_hunk(alloc, &hunk.contents, level, same_change)?;
+    let mut merged = Vec::with_capacity(alloc, rows.len())?;
+    for row in rows {
+        let outcome = merge_hunk(alloc, row, level, same_change)?;
         merged.push(outcome)?;
     }
     Ok(merged)
 }
 
-/// Compares the terms line by line with the first remove, and merges each hunk.
+/// Compares each term line by line with the first remove, and merges each row of lines. A row ends
+/// where a comparison of a term does, as in a merge of two diffs.
 #[tactic(auto, using(crate::proofs::Resolving::merge_steps))]
 pub fn merge_by_lines<'a>(
     alloc: Global,
@@ -137,7 +139,7 @@ pub fn merge_by_lines<'a>(
     ensures { IfOk result (λ merged.
         IsContentMerge level same_change (bytes_of terms.now) (map terms_of merged.items)) }
 {
-    let hunks = diff_by_line(alloc, terms, 1)?;
-    let merged = merge_lines(alloc, &hunks, level, same_change)?;
+    let rows = split_tokens(alloc, &Lines, terms, 1)?;
+    let merged = merge_lines(alloc, &rows, level, same_change)?;
     Ok(merged)
 }
