@@ -3,6 +3,7 @@ pub mod Delimited
 pub mod Repeated
 pub mod Unquoting
 pub mod Tails
+pub mod Continued
 pub mod Steps
 pub mod Appended
 pub mod Again

@@ -37,11 +37,11 @@ abbrev TailOf : {A : Type 0} → List ℕ → Result (A × List ℕ) Stop → Ty
 TailOf bytes (Ok read) = IsTail bytes read.1
 TailOf bytes (Err stop) = Unit {0}
 
-abbrev TailIn : {A : Type 0} → List ℕ → Option (A × List ℕ) → Type 0
+abbrev pub TailIn : {A : Type 0} → List ℕ → Option (A × List ℕ) → Type 0
 TailIn bytes None = Unit {0}
 TailIn bytes (Some read) = IsTail bytes read.1
 
-abbrev TailIf : {A : Type 0} → List ℕ → Result (Option (A × List ℕ)) Stop → Type 0
+abbrev pub TailIf : {A : Type 0} → List ℕ → Result (Option (A × List ℕ)) Stop → Type 0
 TailIf bytes (Ok found) = TailIn bytes found
 TailIf bytes (Err stop) = Unit {0}
 
@@ -96,7 +96,7 @@ split_tail byte (b ∷ bs) = by_test (nat_eq b byte) b bs (split_once byte bs) (
     by_test true b bs r t = (b ∷ [], refl)
     by_test false b bs r t = later b bs r t
 
-comments_tail : (within : Bool) (bytes : List ℕ) → IsTail bytes (without_comments within bytes)
+pub comments_tail : (within : Bool) (bytes : List ℕ) → IsTail bytes (without_comments within bytes)
 comments_tail within [] = ([], refl)
 comments_tail within (b ∷ bs) = by_test _ b bs (without_comments (not (nat_eq b 10)) bs) (comments_tail (not (nat_eq b 10)) bs)
   where
@@ -258,7 +258,7 @@ chosen_if : {B : Type 0} (rest : List ℕ) (o : Option (List ℕ)) (f : List ℕ
 chosen_if rest None f other t u = u
 chosen_if rest (Some text) f other t u = t text
 
-change_in_tail : (at_end : Bool) (left : ℕ) (text rest : List ℕ) → TailIf rest (change_in at_end left text rest)
+pub change_in_tail : (at_end : Bool) (left : ℕ) (text rest : List ℕ) → TailIf rest (change_in at_end left text rest)
 unfolding change_in
 change_in_tail at_end left text rest =
     chosen_if rest (strip (codes "M ") text) _ _ (λ args. as_some rest (modify_at at_end left args rest) (modify_tail at_end left args rest))

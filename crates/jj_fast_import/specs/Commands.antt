@@ -113,6 +113,7 @@ abbrev pub merges_at : Bool → ℕ → List ℕ → Result (List ReferenceValue
 merges_at at_end limit bytes =
     many (λ rest. reference_line (codes "merge ") expected.Merge at_end rest) limit bytes
 
+-- the changes of files that the bytes begin with, and the rest
 abbrev pub changes_at : Bool → ℕ → List ℕ → Result (List ChangeValue × List ℕ) Stop
 changes_at at_end limit bytes = many (λ rest. change_at at_end rest) limit bytes
 
@@ -126,12 +127,14 @@ parents_at at_end bytes = do
 
 -- 2. Commands after their first lines.
 
+-- the command `blob` after its first line, and the rest
 unfoldable pub blob_at : Bool → List ℕ → Result (BlobValue × List ℕ) Stop
 blob_at at_end bytes = do
   labels ← labels_at at_end bytes
   content ← message_at at_end labels.1
   Ok (record { mark = labels.0.0; original_oid = labels.0.1; content = content.0 }, content.1)
 
+-- the command `commit` after its first line, and the rest
 unfoldable pub commit_at : Bool → List ℕ → List ℕ → Result (CommitValue × List ℕ) Stop
 commit_at at_end ref_name bytes = do
   labels ← labels_at at_end bytes
@@ -156,6 +159,7 @@ commit_at at_end ref_name bytes = do
     rest,
   )
 
+-- the command `tag` after its first line, and the rest
 unfoldable pub tag_at : Bool → List ℕ → List ℕ → Result (TagValue × List ℕ) Stop
 tag_at at_end name bytes = do
   mark ← mark_at at_end bytes
@@ -176,6 +180,7 @@ tag_at at_end name bytes = do
     message.1,
   )
 
+-- the command `reset` after its first line, and the rest
 unfoldable pub reset_at : Bool → List ℕ → List ℕ → Result (CommandValue × List ℕ) Stop
 reset_at at_end ref_name bytes = do
   from ← optional_reference at_end bytes

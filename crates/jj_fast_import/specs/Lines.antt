@@ -104,6 +104,7 @@ until delimiter is_start [] = None
 until delimiter is_start (b ∷ bs) =
     or_else (end_of delimiter is_start (b ∷ bs)) (with_byte b (until delimiter (b == 10) bs))
 
+-- the parts read, or that the bytes end too early
 abbrev pub complete : Option (List ℕ × List ℕ) → Result (List ℕ × List ℕ) Stop
 complete None = Err Incomplete
 complete (Some read) = Ok read

@@ -10,6 +10,7 @@ abbrev pub two_digits : ℕ → ℕ → Option ℕ
 two_digits a b =
     if is_ascii_digit a && is_ascii_digit b then Some ((a - 48) * 10 + (b - 48)) else None
 
+-- whether the byte is `+` or `-`
 abbrev pub is_sign : ℕ → Bool
 is_sign b = b == 43 || b == 45
 
