@@ -1,9 +1,10 @@
 //! Proved callers of commits and copy histories.
-ghost use Rattle.std.specs.Prelude.{◌≡◌, IfOk, IsTrue};
+ghost use Rattle.std.specs.Prelude.{◌≡◌, ◌↔◌, IfOk, IsTrue};
 ghost use Rattle.jj_paths.specs.Paths.{path_cmp};
 ghost use Rattle.jj_backend.specs.Records.{commit_eq};
 
 use jj_backend::backend::{ChangeId, Commit, CopyHistory, TreeId, make_root_commit};
+use jj_content::content_hash::{content_decides, content_of};
 use std::alloc::{AllocError, Global};
 use std::cmp::Ordering;
 
@@ -33,4 +34,15 @@ pub fn change_of_root(alloc: Global, change: ChangeId, tree: TreeId) -> Result<C
     ensures { IfOk result (λ id. id ≡ change) }
 {
     make_root_commit(alloc, change, tree).change_id.clone()
+}
+
+/// Returns whether two commits have the same content: they do if and only if all their fields are
+/// equal.
+pub fn have_equal_content(alloc: Global, a: &Commit, b: &Commit) -> Result<bool, AllocError>
+    ensures { IfOk result (λ same. IsTrue same ↔ IsTrue (commit_eq a.now b.now)) }
+{
+    content_decides::<Commit>();
+    let first = content_of(alloc, a)?;
+    let second = content_of(alloc, b)?;
+    Ok(first == second)
 }

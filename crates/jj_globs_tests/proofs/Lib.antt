@@ -1,1 +1,2 @@
 pub mod Selecting
+mod Spelling

@@ -1,11 +1,14 @@
 //! Proved callers of globs.
 ghost use Rattle.std.specs.Prelude.{◌≡◌, ◌↔◌, ℕ, List, map, true, false, IsTrue, IfOk, IfErr, string_bytes};
-ghost use Rattle.jj_globs.specs.GlobMeaning.{IsMatch};
+ghost use Rattle.jj_globs.specs.GlobGrammar.{IsSpelled};
+ghost use Rattle.jj_globs.specs.GlobMeaning.{IsMatch, Matches, Sequence};
 ghost use Rattle.jj_globs.specs.GlobParsing.{IsGlobParseError, glob_spec};
 ghost use Rattle.jj_globs.specs.GlobSyntax.{tokens_of};
 ghost use Rattle.jj_globs_tests.specs.Selected.{IsSelected};
+ghost use Rattle.jj_globs_tests.specs.Spelled.{IsOnlySpelling, IsSpellingError};
 
 use jj_globs::glob::{Glob, GlobError, escape};
+use jj_globs::laws::{parsed_globs_are_spelled, spelled_globs_are_parsed, spelling_is_unique};
 use std::alloc::{AllocError, Global};
 
 /// Whether a pattern matches a path. Neither `?` nor `*` matches `/`. Fails with the first syntax
@@ -46,4 +49,19 @@ pub fn pattern_of(alloc: Global, path: &str) -> Result<String, AllocError>
         → IsMatch (glob_spec (string_bytes pattern) true false) text ↔ (text ≡ path.now)) }
 {
     escape(alloc, path)
+}
+
+/// Returns whether a path matches the syntax tree that a pattern spells by the grammar. A pattern
+/// spells one tree, or none: then the result is an error.
+pub fn matches_tree(alloc: Global, pattern: &str, path: &str) -> Result<bool, GlobError>
+    ensures spelled { IfOk result (λ yes. (tree : Sequence) × IsOnlySpelling pattern.now tree) }
+    ensures matched { IfOk result (λ yes. (tree : Sequence) → IsSpelled pattern.now tree
+        → IsTrue yes ↔ Matches (glob_spec pattern.now true false).options tree path.now) }
+    ensures error { IfErr result (IsSpellingError pattern.now) }
+{
+    parsed_globs_are_spelled();
+    spelled_globs_are_parsed();
+    spelling_is_unique();
+    let glob = Glob::parse(alloc, pattern, true, false)?;
+    Ok(glob.is_match(path.as_bytes()))
 }

@@ -1,1 +1,2 @@
 mod Matches
+mod Sums

@@ -1,2 +1,3 @@
 mod KeptLabels
 mod ThreeStrings
+mod EditedStrings

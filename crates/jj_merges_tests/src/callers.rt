@@ -4,6 +4,7 @@ ghost use Rattle.std.specs.Prelude.{string_bytes, string_eq};
 ghost use Rattle.jj_merges.specs.Counts.{distinct, sum_if};
 ghost use Rattle.jj_merges.specs.Merge.{HaveSameCounts, IsDisjoint, signed_count};
 ghost use Rattle.jj_merges.specs.Resolution.{ResolvesTo};
+ghost use Rattle.jj_merges_tests.specs.Edits.{IsEdited, simplified_strings};
 
 use jj_merges::conflict_labels::ConflictLabels;
 use jj_merges::laws::{simplified_indices_laws, three_way_laws};
@@ -97,4 +98,22 @@ pub fn simplify_labeled(
     simplified_indices_laws::<String>();
     let _terms = strings.as_slice();
     labels.simplify_with(alloc, strings)
+}
+
+/// Writes edited terms of a conflict's simplified form into the conflict. The strings that cancel
+/// stay where they are. Returns `None` if there are not as many terms as `simplify_strings`
+/// returns.
+pub fn write_edited(
+    alloc: Global,
+    strings: Merge<String>,
+    edited: Merge<String>,
+) -> Result<Option<Merge<String>>, AllocError>
+    ensures { IfOk result (λ written. MatchOption written
+        (length edited ≢ length (simplified_strings strings)) (IsEdited strings edited)) }
+{
+    let simplified = strings.simplify(alloc)?;
+    if edited.as_slice().len() != simplified.as_slice().len() {
+        return Ok(None);
+    }
+    Ok(Some(strings.update_from_simplified(alloc, edited)?))
 }

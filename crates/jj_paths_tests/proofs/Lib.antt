@@ -1,1 +1,3 @@
 pub mod SetValues
+mod EmptiedDirs
+mod RelativeWays

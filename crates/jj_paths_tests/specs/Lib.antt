@@ -1,2 +1,4 @@
 pub mod Notes
 pub mod PathErrors
+pub mod EmptyDirs
+pub mod Ways

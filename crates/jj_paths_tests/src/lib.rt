@@ -15,4 +15,6 @@ mod file_util_tests;
 #[cfg(test)]
 mod fixtures;
 #[cfg(test)]
+pub mod fs_callers;
+#[cfg(test)]
 mod trees;

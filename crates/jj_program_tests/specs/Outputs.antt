@@ -38,7 +38,7 @@ pub record IsTold (text : List ℕ) (report : FaultReport) : Type 0 where
   pub determined : IsDeterminedBy {A = List ℕ} Walk (lines_of text) (Err report.fault)
   pub message : string_bytes report.message ≡ message_of Walk text report.fault
 
--- likewise, or the input was not at fault
+-- the report of a fault of the input is that of the fault; of another failure nothing is stated
 abbrev pub IsFaultOfWalk : List ℕ → Failure FaultReport → Type 0
 IsFaultOfWalk text (Input report) = IsTold text report
 IsFaultOfWalk text failure = Unit {0}

@@ -1,1 +1,2 @@
 pub mod WriteErrors
+mod ExecutableBits

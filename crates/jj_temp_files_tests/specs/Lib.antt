@@ -2,3 +2,4 @@ pub mod Objects
 pub mod Disk
 pub mod DiskLaws
 pub mod SameFiles
+pub mod Links

@@ -1,13 +1,17 @@
 //! Object files, which are absent or whole, and files that are one.
-ghost use Rattle.std.specs.Prelude.{◌≡◌, ◌↔◌, IfErr, IfOk, IsTrue, OnOk, Some, length};
+ghost use Rattle.std.specs.Prelude.{◌≡◌, ◌↔◌, IfErr, IfOk, IsTrue, Ok, OnOk, Some, length};
 ghost use Rattle.jj_temp_files.specs.TempNames.{IsNumberedPath};
 ghost use Rattle.jj_temp_files_tests.specs.Disk.{contents_of, LeftAfter, LeftNow};
+ghost use Rattle.jj_temp_files_tests.specs.Links.{HasFlippedBit, IsAtLink};
 ghost use Rattle.jj_temp_files_tests.specs.SameFiles.{ComparesStatuses};
 ghost use Rattle.jj_temp_files_tests.specs.Objects.{IsAbsentOrWhole, IsAtPathOrTemp, StaysAbsentOrWhole};
 
 use crate::memory_disk::MemoryDisk;
 use jj_files::file_util::PathError;
-use jj_temp_files::{CrashSafe, FileAccess, FileIdentity, TempNames, write_file};
+use jj_temp_files::{
+    CrashSafe, FileAccess, FileIdentity, TempNames, check_executable_bit_support, symlink_dir,
+    symlink_file, write_file,
+};
 use std::alloc::Global;
 use std::io;
 
@@ -66,4 +70,37 @@ fn are_equal(first: &FileIdentity, second: &FileIdentity) -> bool
     ensures { IsTrue result ↔ (first.now ≡ second.now) }
 {
     first == second
+}
+
+/// Creates a link to a directory, and then one to a file. An error contains the link that was not
+/// created, and ends it.
+pub fn link_both<A: FileAccess>(
+    alloc: Global,
+    files: &mut A,
+    dir: &str,
+    dir_link: &str,
+    file: &str,
+    file_link: &str,
+) -> Result<(), PathError>
+    ensures linked { OnOk result ((between : A)
+        × A.may_link files.old dir.now dir_link.now (Ok tt) between
+        × A.may_link between file.now file_link.now (Ok tt) files.new) }
+    ensures error { IfErr result (IsAtLink dir_link.now file_link.now) }
+{
+    symlink_dir(alloc, files, dir, dir_link)?;
+    symlink_file(alloc, files, file, file_link)
+}
+
+/// Returns whether scripts in a directory can be marked as executable. They can only if the flipped
+/// bit of a file was read back.
+pub fn keeps_scripts<A: FileAccess>(
+    alloc: Global,
+    files: &mut A,
+    dir: &str,
+    names: &mut TempNames,
+) -> Result<bool, PathError>
+    ensures { IfOk result (λ kept. IsTrue kept
+        → HasFlippedBit A.may_stat A.may_set_mode files.new) }
+{
+    check_executable_bit_support(alloc, files, dir, names)
 }
