@@ -19,6 +19,8 @@ TYPES = ("struct", "enum", "trait", "type")
 ITEM = re.compile(r"""(?P<vis>pub(?:\([^)]*\))?\s+)?
     (?P<quals>(?:(?:const|unsafe|final|default|extern\s+"\w*"|ghost)\s+)*)
     (?P<kind>fn|struct|enum|trait|type|const|static|mod|use|impl|ghost)\b\s*(?P<name>\w*)""", re.X)
+PUBLIC = re.compile(r'(?: {4})?pub (?:const |unsafe |extern "C" )*'
+                    r"(?:fn|struct|enum|trait|type|const|static)\b")
 MACRO = re.compile(r"\w+!\s*[({\[\w]")
 CLAUSE = re.compile(r"\s*(requires|ensures|ghost)(\*?) ?(\w*):? ?\{")
 NESTED = r"<(?:->|[^<>]|<(?:->|[^<>]|<[^<>]*>)*>)*>"
@@ -157,8 +159,12 @@ class Item:
         return f"{self.source.where()}:{self.start + 1}"
 
     def signature(self):
-        """The declaration: of a struct without its private fields."""
-        if self.kind in ("trait", "fn", "impl"):
+        """The declaration: of a struct without its private fields, of a trait with its ghost
+        members."""
+        if self.kind == "trait":
+            ghosts = (f"    ghost {it.name}: {{ {it.body} }};\n" for it in self.ghosts.values())
+            return self.head + "{\n" + "".join(ghosts) + "}"
+        if self.kind in ("fn", "impl"):
             return self.head
         if self.kind in ("enum", "type", "const", "static") or self.text.endswith(";"):
             return self.text
@@ -183,6 +189,10 @@ class Source:
             self.by_name[item.name].append(item)
         self.names = {it.name: it for it in self.top
                       if it.name and it.kind not in ("mod", "use", "impl")}
+        read = {it.start for it in self.every_item()}
+        for at in (at for at, line in enumerate(self.lines) if PUBLIC.match(line)):
+            if at not in read:
+                self.fault(at, "is a public item that was not read")
 
     def fault(self, index, what):
         """Records a form that cannot be read, in the project's own sources."""
@@ -256,23 +266,29 @@ def sources(crate):
 @lru_cache(None)
 def source_at(path):
     """The source at a path, or None."""
-    crate = path.relative_to(ROOT / "crates").parts[0]
-    return next((it for it in sources(crate) if it.path == path), None)
+    is_code = path.suffix == ".rt" and ROOT / "crates" in path.parents
+    there = sources(path.relative_to(ROOT).parts[1]) if is_code else []
+    return next((it for it in there if it.path == path), None)
 
 
 def items_at(path, words):
-    """The items of a file that are meant by `function`, `Type::function`, `crate::function`, or the
-    name of the file."""
+    """The items of a file that are meant by `function`, `Type::function`, `module::function`,
+    `crate::function`, or the name of the file."""
     (*owner, name), source = words.split("::"), source_at(path)
     found = source.by_name.get(name, []) if source else []
-    if source and path.match(words):
+    if source and words.endswith(".rt") and path.match(words):
         return list(source.every_item())
-    return [it for it in found if not owner or owner[-1] in (it.owner, source.crate)]
+    module = source.name().split("::")[-1] if source else ""
+    return [it for it in found if not owner or owner[-1] in (it.owner, source.crate, module)]
 
 
 @lru_cache(None)
 def top_items(crate, kind=""):
     return [it for source in sources(crate) for it in source.top if kind in ("", it.kind)]
+
+
+def functions(crate):
+    return [it for source in sources(crate) for it in source.every_item() if it.kind == "fn"]
 
 
 @lru_cache(None)
@@ -319,8 +335,11 @@ def public_modules(crate):
 
 @lru_cache(None)
 def exports(source):
-    """What users reach by the name of a module: its public items, and what it passes on."""
-    found = {it.name: it for it in source.names.values() if it.public and it.kind != "ghost use"}
+    """What users reach by the name of a module: its public modules and items, and what it passes
+    on."""
+    modules = (it.name for it in source.top if it.kind == "mod" and it.public)
+    found = {it: module_source(source.crate, within(source.module, it)) for it in modules}
+    found |= {it.name: it for it in source.names.values() if it.public and it.kind != "ghost use"}
     for name, words in source.imports(public=True).items():
         found.setdefault(name, resolve(source, words))
     return found

@@ -44,6 +44,9 @@ class Entry:
         says_more = re.search(r"abbrev|unfoldable|data|record", self.words)
         return not says_more and MUTUAL not in self.around
 
+    def context(self):
+        return " ".join(it for it in self.around if it != MUTUAL)
+
     def constructors(self):
         if not re.search(r"\bdata\b", self.text.split("\n")[0]):
             return []
@@ -53,7 +56,7 @@ class Entry:
 def entries(text, fault):
     """The definitions of a file; `fault` is called with the number of each line that has a keyword
     but no definition that can be read."""
-    levels, found, current, comment = [], [], None, []
+    levels, found, current, comment, above = [], [], None, [], head_comments(text)
     text = USE.sub(lambda it: "\n" * it[0].count("\n"), text)
     for number, line in enumerate(HEADER.sub(one_line, text).split("\n"), 1):
         bare, at = line.strip(), indent(line)
@@ -71,6 +74,7 @@ def entries(text, fault):
                 levels.append((at, (opened[1] or MUTUAL).strip()))
                 current = None
             elif new and (keyword or re.match(r"\S+ :", bare)):
+                said = said or above.get(new[2], "")
                 current = Entry(new[2], new[1], said, bare, at, [it for _, it in levels])
                 found.append(current)
             else:

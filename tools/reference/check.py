@@ -3,12 +3,10 @@ have no definition, and links that lead nowhere."""
 import html
 import re
 
-from source_reader import FAULTS, exported_items, public_modules, sources, top_items
+from source_reader import FAULTS, exported_items, public_modules, top_items
 
 from .project import SHOWN
 
-PUBLIC = re.compile(r'(?: {4})?pub (?:const |unsafe |extern "C" )*'
-                    r"(?:fn|struct|enum|trait|type|const|static)\b")
 LINK, ANCHOR = re.compile(r'<a (href|w|k)=\\?"([^"\\]*)'), re.compile(r'\bid="([^"]*)"')
 BUILT_IN = set("ℕ zero suc min max + - * / % ^ < ≤".split())
 # Names that the toolchain makes, and words that contracts have without a definition.
@@ -23,10 +21,9 @@ def faults(site):
         for it in filter(lambda it: is_unknown(it, text.scope), text.missing):
             yield (f"crates/{item.where()}: {item.path()}: the clause "
                    f"{clause.name} cites {it}, which is not found")
-    there = {f"{name}#{html.unescape(it)}" for name, text in site.files.items()
-             for it in ANCHOR.findall(text)}
+    there = {*site.files, *(f"{name}#{html.unescape(it)}" for name, text in site.files.items()
+                            for it in ANCHOR.findall(text))}
     there |= {f"words.html#{it}" for word in site.cited for it in (word.key, word.crate)}
-    there |= {*site.files, *(f"{name}#" for name in site.files)}
     for name, text in site.files.items():
         for kind, target in dict.fromkeys(LINK.findall(text)) if name != "script.js" else []:
             target = target if kind == "href" else f"words.html#{target}"
@@ -42,16 +39,10 @@ def is_unknown(token, scope):
 
 
 def items_without_page(crate):
-    for source in sources(crate):
-        read = {it.start for it in source.every_item()}
-        for at, line in enumerate(source.lines):
-            if PUBLIC.match(line) and at not in read:
-                yield f"crates/{source.where()}:{at + 1}: a public item was not read"
     for item in (it for module in public_modules(crate) for it in exported_items(module)
                  if it.source.crate == crate):
         methods = [it for impl in top_items(crate, "impl") if impl.type == item.name
-                   for it in impl.children]
+                   for it in impl.children if it.public]
         members = [it for it in item.children if it.kind != "ghost use"]
-        for it in (item, *methods, *members):
-            if (it.public or it in members) and not it.page:
-                yield f"crates/{it.where()}: {it.path()} has no page"
+        for it in (it for it in (item, *methods, *members) if not it.page):
+            yield f"crates/{it.where()}: {it.path()} has no page"

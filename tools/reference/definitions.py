@@ -10,23 +10,19 @@ from functools import cached_property, lru_cache
 from typing import NamedTuple
 
 from source_reader import CRATES, FAULTS, TYPES, home_of, toolchain_home, top_items
-from spec_reader import MUTUAL, entries, head_comments, imports
+from spec_reader import entries, imports
 
 STD = ["std", "core", "std_alloc", "std_collections", "std_io", "io"]
 LOGIC = set("lib denote base borrow mir prog store types abs contract ghost sound".split())
-# A comment that goes on where the one before it ended.
-LEANS = re.compile(r"(?:or|of|by|and|but|so|also|then|such)\b|(?:where|with) [^,]*$|.*\bas above\b",
-                   re.S)
 INFIX = "≡ ≢ ↔ ⊎ ++ ∷ == && || +ℤ -ℤ *ℤ ≤ℤ <ℤ ∈"
 OPERATORS = {it: f"◌{it}◌" for it in INFIX.split()} | {"if": "if◌then◌else◌"}
-RELATIONS = "the record of the closure's relations: pre, post"
 CLOSURES = {"pre": "f may be called at these arguments",
             "post": "this value is a possible result of the call",
             "step": "a call from this state with this result may leave that state",
-            "IsAlwaysCallable": "any argument may be passed, at any call", "Fn": RELATIONS,
-            "FnMut": f"{RELATIONS}, and step from a state to the next", "FnOnce": RELATIONS}
+            "IsAlwaysCallable": "any argument may be passed, at any call",
+            **dict.fromkeys(("Fn", "FnMut", "FnOnce"), "the closure's relations: pre, post, step")}
 WORD = r'[^\s(){}\[\],;."]+'
-ASIDE = r'(?P<aside>--[^\n]*|"(?:\\.|[^"\\])*")|'
+ASIDE = r'(?P<aside>(?:--|//)[^\n]*|"(?:\\.|[^"\\])*")|'
 TOKEN = re.compile(ASIDE + r"⟦<[^⟧]*? as (?P<trait>\w+)[^⟧]*>⟧\.(?P<member>\w+)|"
                    rf"{WORD}(?:\.{WORD})*")
 TYPE_TOKEN = re.compile(ASIDE + r"(?P<trait>\b)(?P<member>)\w+(?:\.\w+)*")
@@ -34,7 +30,6 @@ CONSTRUCTORS = {"zero", "suc", "true", "false", "pos", "negsuc", "[]"}
 # A field, and no word for the value behind a reference at some time.
 FIELD = re.compile(r"(?<=\.)(?!(?:now|old|new|entry|cur|fin)\b)[a-z]\w*(?=\W|$)")
 MOST_LINES = 60
-VALUE = "Contracts see its Value:"
 
 
 class Names:
@@ -56,18 +51,19 @@ class Names:
 class Definition:
     """A word that contracts cite, with the text that unfolds."""
 
-    def __init__(self, crate, ident, kind, doc, text, scope, where, context=""):
+    def __init__(self, crate, ident, kind, doc, text, scope, where, context="", declaration="",
+                 values=()):
         self.crate, self.ident, self.kind, self.doc, self.text = crate, ident, kind, doc, text
         self.scope, self.where, self.context = scope, where, context
-        self.values, self.declaration = [], ""
+        self.declaration, self.values = declaration, values
         self.key, self.name = f"{crate}/{ident}", ident.rpartition(".")[2]
         self.is_ours = crate in CRATES
 
     @cached_property
     def fields(self):
         """The names of its fields, if it is a record or a struct."""
-        is_record = re.search(r"\brecord\b", self.text.split("\n")[0])
-        declared = self.declaration or (self.text if is_record else "")
+        is_record = re.match(r".*\brecord\b", self.text)
+        declared = self.text if is_record else self.declaration
         return set(re.findall(r"^ +(?:pub(?:\(\w+\))? )?(?:ghost )?(\w+) ?:(?!:)", declared, re.M))
 
     @cached_property
@@ -84,17 +80,14 @@ class Definition:
 
     @cached_property
     def parts(self):
-        """Its HTML; the definitions that it cites; and those that the values of a ghost member cite
-        in the implementations of its trait."""
+        """Its HTML, and the definitions that it cites."""
         (given, cited1), (said, cited2) = (it.html([self]) for it in self.texts)
-        values = [(of, *Text(text, scope).html()) for of, text, scope in self.values]
-        rows = "".join(f"<li>for <code>{html.escape(of)}</code>: <code>{text}</code>"
-                       for of, text, _ in values)
-        out = f"<p class=given>for given <code>{given}</code></p>" if given else ""
-        out += f"<pre>{said}</pre>"
-        if rows:
-            out += f"<details><summary>Its values: {len(values)}</summary><ul>{rows}</ul></details>"
-        return out, {*cited1, *cited2}, {more for *_, cited in values for more in cited}
+        rows = "".join(f"<li>for <code>{html.escape(of)}</code>: {it.parts[0]}"
+                       for of, it in self.values)
+        given = f"<p class=given>for given <code>{given}</code></p>" if given else ""
+        values = f"<details><summary>Its values</summary><ul>{rows}</ul></details>" if rows else ""
+        cited = [*cited1, *cited2, *(more for _, it in self.values for more in it.parts[1])]
+        return f"{given}<pre>{said}</pre>{values}", cited
 
 
 def binders(text):
@@ -111,9 +104,8 @@ class Text:
     """A text of a contract or a definition: its tokens with the definitions that they cite, and the
     names without a definition. No comment, string, field of a value or variable is looked up."""
 
-    def __init__(self, text, scope, hidden=None, token=TOKEN):
+    def __init__(self, text, scope, hidden, token=TOKEN):
         self.text, self.scope, self.tokens, self.missing = text, scope, [], []
-        hidden = binders(text) if hidden is None else hidden
         for it in token.finditer(text):
             target, is_field = None, text[it.start() - 1:it.start()] == "."
             if it["member"]:
@@ -167,17 +159,13 @@ class Module(Names):
         text = file.read_text()
         super().__init__(text, crate)
         self.path, self.own = path, {}
-        place, doc = f"{crate}/specs/{dotted.replace('.', '/')}.antt", ""
-        faults, said = (FAULTS, {}) if crate in CRATES else ([], head_comments(text))
+        place = f"{crate}/specs/{dotted.replace('.', '/')}.antt"
+        faults = FAULTS if crate in CRATES else []
         unread = f"crates/{place}:{{}}: is no definition that can be read"
         for it in entries(text, lambda number: faults.append(unread.format(number))):
-            before, doc = doc, it.comment or said.get(it.name, "")
-            doc = f"{before.rstrip('.')} … {doc}" if before and LEANS.match(doc) else doc
             kind = "proof" if it.is_proof() else "definition"
-            context = " ".join(words for words in it.around if words != MUTUAL)
-            ident = f"{dotted}.{it.name}"
-            made = Definition(crate, ident, kind, doc, it.text, self, place, context)
-            self.own[it.name] = made
+            self.own[it.name] = made = Definition(crate, f"{dotted}.{it.name}", kind, it.comment,
+                                                  it.text, self, place, it.context())
             for name in it.constructors():
                 self.own.setdefault(name, made)
 
@@ -195,9 +183,9 @@ def module_of(path):
     """The module of this path: a file, what another module passes on, or types of sources; or
     None."""
     first, *parts = path.split(".")
-    if first == "Rattle" and "declared" in parts:
+    if "declared" in parts:
         names = [it for it in parts if it not in ("declared", "TheVariants", "TheConstants")]
-        return Declared(parts[0], names[-1:])
+        return Declared(parts[0], names[-1])
     if first == "Rattle":
         crate, dotted, file = parts[0], parts[2:] or ["Lib"], home_of(parts[0])
         file = file.joinpath(*parts[1:2], *dotted)
@@ -226,11 +214,11 @@ def found_in(path="", name=""):
 class Declared(NamedTuple):
     """The types of a crate's sources, as definitions import them."""
     crate: str
-    names: list
+    owner: str
 
     def lookup(self, name):
         crates = STD if self.crate == "std" else [self.crate]
-        return first(declared_type(it, crates) for it in (*self.names, name))
+        return declared_type(self.owner, crates) or declared_type(name, crates)
 
 
 def first(found):
@@ -266,19 +254,14 @@ def type_definition(item):
     """The type, trait or constant as a definition: the fields, the ghost members, and the value
     that contracts see."""
     crate, text, scope = item.source.crate, item.signature(), Scope(item.source, item)
-    if item.kind == "trait":
-        members = "".join(f"    ghost {it.name}: {{ {it.body} }};\n" for it in item.ghosts.values())
-        text += f"{{\n{members}}}"
-    text = re.sub(r"^(\s*)///? ?", r"\1-- ", text, flags=re.M)
     for impl in top_items(crate, "impl"):
         if (impl.trait, impl.type) == ("Model", item.name):
             members = (f"{it.name} = {it.body}" for it in impl.ghosts.values())
-            text += f"\n-- {VALUE}\n" + "\n".join(members)
+            text += "\n-- Contracts see its Value:\n" + "\n".join(members)
             scope = Scope(impl.source, impl)
-    made = Definition(crate, f"type.{item.name}", item.kind, item.note, text, scope,
-                      item.source.where())
-    made.declaration = item.text if item.kind == "struct" else ""
-    return made
+    return Definition(crate, f"type.{item.name}", item.kind, item.note, text, scope,
+                      item.source.where(),
+                      declaration=item.text if item.kind == "struct" else "")
 
 
 @lru_cache(None)
@@ -295,15 +278,15 @@ def ghost_member(crate, trait, member, depth=0):
 
 @lru_cache(None)
 def ghost_definition(item):
-    """A ghost member of a trait as a definition, with its values if the trait is the project's."""
-    crate, trait, name = item.source.crate, item.parent.name, item.name
-    made = Definition(crate, f"ghost.{trait}.{name}", f"ghost member of the trait {trait}",
-                      item.note, f"{name} : {item.body}", Scope(item.source, item),
-                      item.source.where())
-    own = ((it, it.ghosts[name]) for it in (top_items(crate, "impl") if made.is_ours else [])
-           if it.trait == trait and name in it.ghosts)
-    made.values = [(impl.implemented["of"], it.body, Scope(it.source, it)) for impl, it in own]
-    return made
+    """A ghost member as a definition: of a trait of the project, with its values."""
+    crate, trait, name = item.source.crate, item.parent.trait, item.name
+    is_declared = item.parent.kind == "trait"
+    impls = top_items(crate, "impl") if is_declared and crate in CRATES else []
+    values = [(it.implemented["of"], ghost_definition(it.ghosts[name])) for it in impls
+              if it.trait == trait and name in it.ghosts]
+    return Definition(crate, f"ghost.{trait}.{name}", f"ghost member of the trait {trait}",
+                      item.note, f"{name} {':' if is_declared else '='} {item.body}",
+                      Scope(item.source, item), item.source.where(), values=values)
 
 
 CLOSURE_WORDS = {word: Definition("logic", f"closure.{word}", "word", doc, f"F.{word}", Names(),
@@ -332,12 +315,10 @@ class Scope(Names):
         is_type = rest and (head in self.bounds or re.fullmatch(r"[A-Z][A-Z0-9]?", head))
         if is_type and head not in self.modules:
             return self.member(crate, head, rest)
-        if rest and head in self.modules or head in self.names or OPERATORS.get(head) in self.names:
-            return super().find(token)
-        if not rest and (found := first(ghost_member(crate, it, head) for it in self.traits)):
+        members = (ghost_member(crate, it, head) for it in self.traits if not rest)
+        found = super().find(token) or first(members)
+        if found or not head[:1].isupper() or head in self.bounds:
             return found
-        if not head[:1].isupper() or head in self.bounds:
-            return None
         return declared_type(head, below(crate) if crate in CRATES else [crate])
 
     def member(self, crate, head, rest):

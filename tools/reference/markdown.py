@@ -6,12 +6,11 @@ SPAN = re.compile(r"\[(?P<said>(?:`[^`]*`|[^\]`])*)\]\((?P<target>[^)]*)\)|"
                   r"\[?`(?P<code>[^`]+)`\]?|\*\*(?P<b>.+?)\*\*|"
                   r"(?<!\w)\*(?P<em>[^*\s][^*]*)\*(?!\w)")
 # The blocks, by how they begin; each goes on as far as its second pattern matches lines.
-BLOCKS = re.compile(r"""^(?:```.*\n(?P<fenced>[^`]*?)^```$
-    |(?P<indented>[ ]{4}.*(?:\n(?:[ ]{4}.*|(?=\n)))*)
+BLOCKS = re.compile(r"""^(?:(?P<code>[ ]{4}.*(?:\n(?:[ ]{4}.*|(?=\n)))*)
     |(?P<marks>\#+)[ ](?P<heading>.*)
     |(?P<table>\|.*(?:\n\|.*)*)
     |(?P<list>[-*][ ].*(?:\n(?![#|]).+)*)
-    |(?P<said>.+(?:\n(?![#|]|[-*][ ]|```).+)*))$""", re.M | re.X)
+    |(?P<said>.+(?:\n(?![#|]|[-*][ ]).+)*))$""", re.M | re.X)
 
 
 def a(href, said):
@@ -22,18 +21,22 @@ def first_sentence(text):
     return re.split(r"(?<=[.])\s", text.replace("\n", " ").strip(), maxsplit=1)[0]
 
 
-def inline(text, link=lambda words: "", href=lambda target, words: target):
-    """A line in HTML. `link` returns where a name in code leads, or nothing; `href` where a link
-    with some words leads."""
+def no_link(words, target=""):
+    return target
+
+
+def inline(text, link=no_link):
+    """A line in HTML. `link` returns where a name in code leads, or nothing; and where the words of
+    a link lead that has a target."""
     def span(found):
         kind, words = found.lastgroup, html.unescape(found[found.lastgroup])
         if kind == "target":
             said = html.unescape(found["said"])
-            return a(href(words, said.strip("`")), inline(said))
+            return a(link(said.strip("`"), words), inline(said))
         if kind == "code":
             said, target = f"<code>{found['code']}</code>", link(words)
             return a(target, said) if target else said
-        return f"<{kind}>{inline(words, link, href)}</{kind}>"
+        return f"<{kind}>{inline(words, link)}</{kind}>"
 
     return SPAN.sub(span, html.escape(text.replace("\n", " ")))
 
@@ -43,20 +46,19 @@ def table(text, line_of, number):
     head, _, *rows = ([cell.strip() for cell in re.split(r"(?<!\\)\|", line.strip().strip("|"))]
                       for line in text.split("\n"))
     titles = "".join(f"<th>{line_of(cell)}" for cell in head)
-    cells = (row + [""] * (len(head) - len(row)) for row in rows)
     body = "".join(f'<tr id="row-{at}">' + "".join(f"<td>{line_of(cell)}" for cell in row)
-                   for at, row in enumerate(cells, number + 2))
+                   for at, row in enumerate(rows, number + 2))
     return f"<table><thead><tr>{titles}</thead><tbody>{body}</tbody></table>"
 
 
-def markdown(text, link=lambda words: "", href=lambda target, words: target):
+def markdown(text, link=no_link):
     """A text in HTML, with links as of `inline`."""
     def line_of(said):
-        return inline(said, link, href)
+        return inline(said, link)
 
     def block(found):
-        if code := found["fenced"] or found["indented"]:
-            code = re.sub(r"^    ", "", code, flags=re.M) if found["indented"] else code
+        if found["code"]:
+            code = re.sub(r"^    ", "", found["code"], flags=re.M)
             return f"<pre>{html.escape(code.rstrip())}</pre>"
         if found["heading"]:
             level, name = len(found["marks"]), re.sub(r"\W+", "-", found["heading"].lower())

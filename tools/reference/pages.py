@@ -7,19 +7,20 @@ from pathlib import Path
 from string import Template
 
 from crate_list import ROOT, layers
-from source_reader import (CRATES, TYPES, Source, exported_items, exports, items_at,
-                           module_source, public_modules, resolve)
+from source_reader import (CRATES, Source, exported_items, exports, items_at, module_source,
+                           public_modules)
 
-from .definitions import VALUE, Scope, Text, below, binders, declared_type, type_definition
+from .definitions import TYPE_TOKEN, Scope, Text, binders, ghost_definition, type_definition
 from .markdown import a, first_sentence, inline, markdown
 from .project import GUIDE, SHOWN, Project, crates_of, page_of, title_of
 
 HERE = Path(__file__).parent
-FRAME, LEGEND = Template((HERE / "page.html").read_text()), (HERE / "legend.html").read_text()
+TEMPLATES = {it.stem: Template(it.read_text()) for it in HERE.glob("*.html")}
 DOCUMENTS = [ROOT / "README.md", *sorted((ROOT / "docs").glob("*.md")), *GUIDE]
-MOST_CALLERS = 12
-INTRODUCTION = """<h1>Reference of jj-core in Rattle</h1><p>Every public item of the libraries, \
-with the contract that the prover has shown. A crate uses the crates of the layers below it.</p>"""
+
+
+def filled(template, **parts):
+    return TEMPLATES[template].substitute(parts)
 
 
 def document_page(path):
@@ -38,12 +39,16 @@ def row(item, name=""):
     return a(link_to(item), f"<code>{name or item.name}</code>") + " " + summary(item.note)
 
 
+def full_name(item):
+    return f"{item.source.crate}::{item.path()}"
+
+
 def summary(text):
     return inline(first_sentence(text))
 
 
-def row_link(claim, said):
-    return a(f"doc.GUARANTEES.html#row-{claim.number}", said)
+def row_of(claim):
+    return f"doc.GUARANTEES.html#row-{claim.number}"
 
 
 def listed(rows, heading="", kind=""):
@@ -60,13 +65,6 @@ def gloss(cited, known):
     return listed(rows, kind=" class=gloss")
 
 
-def signature_types(item):
-    """The types in a signature: where fields of values are looked up."""
-    heads = item.head + (item.parent.head if item.parent else "")
-    names = dict.fromkeys(re.findall(r"\b[A-Z]\w*", heads))
-    return list(filter(None, (declared_type(it, below(item.source.crate)) for it in names)))
-
-
 class Site:
     """The pages by file name, and the definitions that they cite."""
 
@@ -80,15 +78,14 @@ class Site:
             self.add_page(document_page(path), path.stem, self.document(path))
             self.add_hit(path.stem, "document", "docs", document_page(path), title_of(path))
         for claim in self.project.rows:
-            page = f"doc.GUARANTEES.html#row-{claim.number}"
-            self.add_hit(claim.text, "claim", claim.crate, page)
+            self.add_hit(claim.text, "claim", claim.crate, row_of(claim))
         self.add_page("index.html", "jj-core reference", self.index())
         self.add_definitions()
         self.add_data("search.js", "define_names", self.search)
         self.files |= {it: (HERE / it).read_text() for it in ("style.css", "script.js")}
 
     def add_page(self, name, title, body):
-        self.files[name] = FRAME.substitute(title=html.escape(title), body=body)
+        self.files[name] = filled("page", title=html.escape(title), body=body)
 
     def add_data(self, name, function, *values):
         words = (json.dumps(it, ensure_ascii=False, separators=(",", ":")) for it in values)
@@ -104,41 +101,40 @@ class Site:
             (out / name).parent.mkdir(parents=True, exist_ok=True)
             (out / name).write_text(text)
 
-    def link_in(self, crates):
-        """The function from a name to where it is documented, looked up in these crates."""
-        def link(words):
+    def link_in(self, crates, folder=ROOT):
+        """The function from a name to where it is documented, looked up in these crates first, and
+        from the words and the target of a link in a document of the folder."""
+        def link(words, target=""):
+            file, mark, anchor = target.partition("#")
+            there = (folder / file).resolve() if target else ROOT / words
+            if there in DOCUMENTS:
+                return document_page(there) + mark + anchor
             if words in SHOWN:
                 return page_of(module_source(words, ""))
-            if re.fullmatch(r"crates/\S+\.rt", words):
-                return self.link_at(ROOT / words, words.rpartition("/")[2])
-            found = (it for crate in crates for it in self.project.find(crate, words) if it.anchor)
-            return next(map(link_to, found), "")
+            name, _, clauses = words.partition(": ")
+            known = [*crates, *SHOWN] if "::" in words else crates
+            named = (it for crate in known for it in self.project.find(crate, words) if not target)
+            found = [it for it in items_at(there, name) or named if it.anchor]
+            cited = (link_to(it, clause) for it in found for clause in it.clauses
+                     if clause.kind != "requires" and clause.name == clauses.split(",")[0] != "")
+            elsewhere = "index.html" if file and there.exists() else target
+            return next(cited, "") or next(map(link_to, found), elsewhere)
         return link
-
-    def link_at(self, path, name, clauses=""):
-        """Where an item of a file is documented, or its first clause of these; or nothing."""
-        found = [it for it in items_at(path, name) if it.anchor]
-        cited = (link_to(it, clause) for it in found for clause in it.clauses
-                 if clause.kind != "requires" and clause.name in clauses.split(", ")[:1])
-        return next(cited, "") or next(map(link_to, found), "")
 
     def module_page(self, module):
         items, link = self.project.on_page[module], self.link_in([module.crate])
         tops = [it for it in items if not it.parent]
         notes = inline(" ".join(self.project.notes[module.crate]), link)
         passed = [it for it in exported_items(module) if it.page and it.page != page_of(module)]
-        inside = {it.module.rpartition(".")[2]: it for it in public_modules(module.crate)
-                  if it.module and it.module.rpartition(".")[0] == module.module}
-        inside |= {name: it for name, it in exports(module).items() if isinstance(it, Source)}
         modules = (f"{a(page_of(it), f'<code>{name}</code>')} {summary(it.doc)}"
-                   for name, it in inside.items())
-        claims = (row_link(it, inline(it.text)) for it in self.project.rows
+                   for name, it in exports(module).items() if isinstance(it, Source))
+        claims = (a(row_of(it), inline(it.text)) for it in self.project.rows
                   if module.name() == it.crate)
         body = [f"<h1>{module.name()}</h1>", markdown(module.doc, link), listed(claims, "Claims"),
                 f"<p class=meta>Of the crate: {notes}</p>" if notes else "",
                 listed(modules, "Modules"), listed(map(row, passed), "Re-exports"),
                 listed(map(row, tops[1:] and tops), "Items"),
-                LEGEND if any(it.clauses for it in items) else ""]
+                filled("legend") if any(it.clauses for it in items) else ""]
         for top in tops:
             inner = "".join(self.item(it, link) for it in items
                             if it.parent and it.anchor.startswith(f"{top.name}."))
@@ -149,117 +145,75 @@ class Site:
         """The section of an item, with the sections of what belongs to it."""
         module = item.page.removesuffix(".html").replace(".", "::")
         self.add_hit(item.path(), item.kind, module, link_to(item), item.note)
-        text = "" if item.kind == "ghost" else html.escape(item.signature().strip())
-        text = re.sub(r"(?m)^    ", "", text) if item.parent else text
-        text = re.sub(r"\b[A-Z]\w+", lambda it: self.type_link(item, it[0]), text)
-        text = re.sub(r"(?m)^( *)(///?.*)$", r"<i>\1\2</i>", text)
-        head = item.parent.head if item.parent and item.parent.implemented["trait"] else ""
-        parts = [f"<p class=meta><code>{html.escape(' '.join(head.split()))}</code></p>" if head
-                 else "", f"<pre class=sig>{text}</pre>" if text else "",
-                 markdown(item.doc, link), self.contract(item), self.mentions(item), inner]
         level, kind = (3, item.kind.replace("fn", "method")) if item.parent else (2, item.kind)
-        title = (f"{a(link_to(item), item.path())} <span class=kind>{kind} · "
-                 f"{item.where()}</span>")
-        return (f'<section class=item id="{html.escape(item.anchor)}"><h{level}>{title}</h{level}>'
-                f'{"".join(parts)}</section>')
+        impl = item.parent.head if item.parent and item.parent.implemented["trait"] else ""
+        parts = [self.declaration(item), markdown(item.doc, link), self.contract(item),
+                 self.mentions(item), inner]
+        return filled("item", anchor=html.escape(item.anchor), level=level, link=link_to(item),
+                      path=item.path(), kind=kind, where=item.where(),
+                      given=html.escape(" ".join(impl.split())), body="".join(parts))
 
-    def type_link(self, item, name):
-        """A name in a signature, with a link where it is a type of the project."""
-        path = [name] if name in item.source.names else item.source.imports(False).get(name)
-        target = path and resolve(item.source, path)
-        if name == item.name or not hasattr(target, "kind") or target.kind not in TYPES:
-            return name
-        definition = type_definition(target)
-        self.cite([definition])
-        return f'<a w="{html.escape(definition.key)}">{name}</a>'
-
-    def cite(self, definitions):
-        """Enters definitions and all below them, also those that values of ghost members cite.
-        Returns those below without these values."""
-        found, todo = set(definitions), list(definitions)
-        while todo:
-            new = todo.pop().parts[1] - found
-            found |= new
-            todo += new
-        for it in found - self.cited:
-            self.cited.add(it)
-            self.cite(it.parts[2] - self.cited)
-        return found
+    def declaration(self, item):
+        """The declaration of an item with links from its words; of a type, also what contracts see
+        of it."""
+        if item.kind != "fn":
+            definition = (ghost_definition if item.kind == "ghost" else type_definition)(item)
+            said, cited = definition.parts
+            self.cited |= {*cited}
+            return said + gloss(cited if item.owner and not definition.values else [], set())
+        text = re.sub(r"(?m)^    ", "", item.head) if item.parent else item.head.strip()
+        hidden = set(re.findall(r"\b[a-z_]\w*", text))
+        said, cited = Text(text, Scope(item.source, item), hidden, TYPE_TOKEN).html()
+        self.cited |= {*cited}
+        return f"<pre>{said}</pre>"
 
     def contract(self, item):
-        """The claims and clauses of a function, or what contracts see of a type, or the value of a
-        ghost member."""
-        if item.kind == "ghost":
-            said, cited = Text(item.body, Scope(item.source, item)).html()
-            self.cite(cited)
-            mark = ":" if item.parent.kind == "trait" else "="
-            return f"<pre>{item.name} {mark} {said}</pre>{gloss(cited, set())}"
-        if item.kind in ("struct", "enum"):
-            model = type_definition(item)
-            said, cited = Text(model.text.partition(VALUE)[2].strip(), model.scope).html([model])
-            self.cite([model, *cited])
-            return f"<p class=meta>{VALUE}</p><pre>{said}</pre>" if said else ""
-        rows, there = [], [it.name for it in item.clauses]
-        for claim, cited in self.project.claims[item].items():
-            link = row_link(claim, ", ".join(it for it in cited if it in there) or "claim")
-            rows.append(f"{inline(claim.text)} <span class=kind>{link}</span>")
+        """The claims that cite a function, and its clauses."""
+        cited = ((claim, ", ".join(names)) for claim, names in self.project.claims[item].items())
+        rows = (f"{inline(claim.text)} <span class=kind>{a(row_of(claim), names or 'claim')}</span>"
+                for claim, names in cited)
         return listed(rows, kind=" class=claims") + (self.clauses(item) if item.clauses else "")
 
     def clauses(self, item):
-        scope, known, found, parts = Scope(item.source, item), set(), set(), []
+        scope, known, parts = Scope(item.source, item), set(), []
         hidden = binders(" ".join(it.text for it in item.clauses)) | {"result", "self"}
         arguments = re.findall(r"(\w+):(?!:)", item.head.partition("(")[2])
         hidden |= set(arguments) - set(scope.bounds)
+        heads = item.head + (item.parent.head if item.parent else "")
+        types = Text(heads, scope, hidden, TYPE_TOKEN).links
         for clause in item.clauses:
             text = Text(re.sub(r"\n\s+", "\n  ", clause.text), scope, hidden)
-            body, cited = text.html(signature_types(item))
-            found |= self.cite(cited)
+            formula, cited = text.html(types)
+            self.cited |= {*cited}
             self.clause_texts.append((item, clause, text))
-            link = link_to(item, clause)
-            said = f"<p class=note>{inline(clause.note)}</p>" if clause.note else ""
-            parts.append(f'<div class=clause id="{html.escape(link.partition("#")[2])}"><span '
-                         f"class=kw>{clause.kind}</span> {a(link, f'<b>{clause.name}</b>')}{said}"
-                         f"<pre>{body}</pre>{gloss(cited, known)}</div>")
-        ours = sum(it.is_ours for it in found)
-        parts.append("<p class=meta><button class=all aria-expanded=false>Unfold all</button> It "
-                     f"rests on {ours} definitions of the project and {len(found) - ours} of the "
-                     "toolchain.</p><div></div>")
-        return "".join(parts)
+            link = html.escape(link_to(item, clause))
+            parts.append(filled("clause", anchor=link.partition("#")[2], link=link,
+                                kind=clause.kind, name=clause.name, note=inline(clause.note),
+                                formula=formula, gloss=gloss(cited, known)))
+        return "".join(parts) + filled("unfold")
 
     def mentions(self, item):
         """The proved callers of an item, the claims that it shows, the pages of the guide that cite
         it, and the mutations that its proof rejects."""
         project, callers = self.project, self.project.callers[item]
-        rejected = [("", *it) for it in project.mutations[item]]
-        rejected += [(f" of {caller.source.crate}::{caller.path()}", *it)
-                     for caller in callers for it in project.mutations[caller]]
         pages = dict.fromkeys(project.guide[item])
-        groups = {"proved caller": [row(it, f"{it.source.crate}::{it.path()}") for it in callers],
-                  "shown claim": [row_link(it, inline(it.text)) for it in project.shows[item]],
+        rejected = ((name, full_name(it), html.escape(new)) for it in (item, *callers)
+                    for name, new in project.mutations[it])
+        groups = {"proved caller": [row(it, full_name(it)) for it in callers],
+                  "shown claim": [a(row_of(it), inline(it.text)) for it in project.shows[item]],
                   "guide page": [a(document_page(it), inline(title_of(it))) for it in pages],
-                  "rejected mutation": [f"{name}{of}, <code>{html.escape(new)}</code>"
-                                        for of, name, new in rejected]}
+                  "rejected mutation": [f"{name} of {of}: <code>{new}</code>"
+                                        for name, of, new in rejected]}
         said = ", ".join(f"{len(rows)} {kind}{'s' * (len(rows) > 1)}"
                          for kind, rows in groups.items() if rows)
-        if len(callers) > MOST_CALLERS:
-            more = f"{len(callers) - MOST_CALLERS} more"
-            groups["proved caller"][MOST_CALLERS:] = [more]
         rows = listed(f"{kind.capitalize()}: {it}" for kind, rows in groups.items() for it in rows)
         return f"<details><summary>{said}</summary>{rows}</details>" if said else ""
 
     def document(self, path):
         """A document, with links from the names that it cites."""
-        def href(target, words):
-            file, mark, anchor = target.partition("#")
-            there = (path.parent / file).resolve()
-            if there in DOCUMENTS:
-                return document_page(there) + mark + anchor
-            found = self.link_at(there, *words.split(": ")) if there.suffix == ".rt" else ""
-            return found or ("index.html" if file and there.exists() else target)
-
-        named = crates_of(path)
-        crates = [*named, *(f"{it}_tests" for it in named if f"{it}_tests" in CRATES)]
-        return markdown(path.read_text(), self.link_in(crates), href)
+        named = (it for crate in crates_of(path) for it in (crate, f"{crate}_tests"))
+        crates = [it for it in named if it in CRATES]
+        return markdown(path.read_text(), self.link_in(crates, path.parent))
 
     def index(self):
         shown = [[it for it in names if it in SHOWN] for names in layers()]
@@ -268,7 +222,7 @@ class Site:
         rows = (f"<h2>{title}</h2><dl>{''.join(map(self.crate_row, names))}</dl>"
                 for title, names in groups.items())
         documents = (a(document_page(it), inline(title_of(it))) for it in DOCUMENTS)
-        return f"{INTRODUCTION}{''.join(rows)}{listed(documents, 'Documents')}"
+        return filled("index", crates="".join(rows), documents=listed(documents, "Documents"))
 
     def crate_row(self, name):
         front = module_source(name, "")
@@ -279,8 +233,13 @@ class Site:
                 f"<div class=meta>{links}</div>")
 
     def add_definitions(self):
-        """Adds each cited definition once, in the file of its crate, from which pages unfold it."""
-        by_crate = defaultdict(dict)
+        """Adds each cited definition and those below it once, in the file of its crate, from which
+        pages unfold it."""
+        by_crate, todo = defaultdict(dict), list(self.cited)
+        while todo:
+            new = {*todo.pop().parts[1]} - self.cited
+            self.cited |= new
+            todo += new
         for it in sorted(self.cited, key=lambda it: it.key):
             by_crate[it.crate][it.ident] = [inline(it.doc), it.parts[0], f"{it.kind} of {it.where}"]
             if it.is_ours and it.kind == "definition":
@@ -289,5 +248,4 @@ class Site:
             self.add_data(f"d/{crate}.js", "define", crate, found)
         rows = (f'{a(f"words.html#{crate}", f"<code>{crate}</code>")} {len(found)}'
                 for crate, found in by_crate.items())
-        self.add_page("words.html", "Words", "<h1>Words</h1><div id=word></div><p>The definitions "
-                      f"that contracts cite, by crate.</p>{listed(rows)}")
+        self.add_page("words.html", "Words", filled("words", crates=listed(rows)))

@@ -3,25 +3,19 @@ pages of the guide."""
 import re
 from collections import defaultdict
 
-from crate_list import ROOT, is_test_support
+from crate_list import ROOT, is_library, is_test_support
 from guarantees import LINK, claims, section_lines
-from source_reader import (CRATES, TYPES, exported_items, home_of, items_at, public_modules,
-                           source_at, sources, top_items)
+from source_reader import (CRATES, TYPES, exported_items, functions, home_of, items_at,
+                           public_modules, source_at, sources, top_items)
 
 SHOWN = [it for it in CRATES if not it.startswith("rows") and it != "conformance"]
 TESTS = [it for it in SHOWN if is_test_support(it)]
-USED = {it for name in CRATES if not is_test_support(name) for it in CRATES[name]}
-# The crates whose functions are callers of the libraries: tests, what no library uses, and the
-# walks of a store.
-CALLERS = [it for it in SHOWN if it in TESTS or it not in USED or it == "jj_store_walks"]
+# The crates whose functions are callers of the libraries, examples and the exports to C among them.
+EXAMPLES = ("jj_store_walks", "failing_reads", "jj_core_c")
+CALLERS = [it for it in SHOWN if not is_library(it) or it in EXAMPLES]
 GUIDE = sorted((ROOT / "docs/guide").glob("*.md"))
 # A call: the dot before a method or the type before a function, and the name.
 CALL = re.compile(r"(\.\s*)?(?:(\w+)(?:::<[^>()]*>)?::)?\b(\w+)(?:::<[^>]*>)?\(")
-
-
-def every_function(crates):
-    return [it for crate in crates for source in sources(crate) for it in source.every_item()
-            if it.kind == "fn"]
 
 
 def title_of(path):
@@ -60,12 +54,11 @@ class Project:
     def place(self, crate):
         """Places each public item of a crate on the page of the module by which users name it, and
         what belongs to a type or a trait below it."""
-        homes = {}
-        modules = sorted(public_modules(crate), key=lambda it: it.module.count("."))
+        homes, modules = {}, sorted(public_modules(crate), key=lambda it: it.module.count("."))
         self.pages += modules
         for module in modules:
-            for item in exported_items(module):
-                if item.source.crate == crate and (item not in homes or item.source is module):
+            for item in (it for it in exported_items(module) if it.source.crate == crate):
+                if item not in homes or item.source is module:
                     homes[item] = module
         for item in top_items(crate, "fn"):
             if re.match(r'pub (?:unsafe )?extern "C"', item.text):
@@ -100,12 +93,10 @@ class Project:
     def find(self, crate, words):
         """The items of a crate that a document means by a name, those with a page first; for a
         method without a page, also that of its trait."""
-        *owner, name = words.split("::")
-        found = [it for source in sources(crate) for it in source.by_name.get(name, [])
-                 if it.kind != "ghost" and
-                 (not owner or owner[-1] in (it.owner, *(it.anchor or "").split(".")))]
+        found = [it for source in sources(crate) for it in items_at(source.path, words)
+                 if it.kind != "ghost"]
         traits = {it.parent.trait for it in found if not it.anchor and it.parent} - {""}
-        found += [it for it in self.by_name[name] if it.owner in traits]
+        found += [it for it in self.by_name[words.split("::")[-1]] if it.owner in traits]
         return sorted(found, key=lambda it: (not it.anchor, bool(it.parent)))
 
     def read_guarantees(self):
@@ -139,35 +130,25 @@ class Project:
 
     def read_callers(self):
         """Enters each function with a contract of a crate of callers at the functions of the
-        libraries below that it calls."""
+        libraries below that it calls: a method if the caller names only one type that has one of
+        its name, at the type and at its traits."""
         owners, types = defaultdict(set), defaultdict(set)
         for impl in (it for crate in CRATES for it in top_items(crate, "impl") if it.trait):
             types[impl.trait].add(impl.type)
-        for item in every_function(CRATES):
+        for item in (it for crate in CRATES for it in functions(crate)):
             owners[item.name].add(item.owner)
-        for caller in every_function(CALLERS):
+        for caller in (it for crate in CALLERS for it in functions(crate)):
             if not (caller.anchor and any("ensures" in it.kind for it in caller.clauses)):
                 continue
             below = [it for it in CRATES[caller.source.crate] if it not in TESTS]
+            heads = caller.head + (caller.parent.head if caller.parent else "")
+            words = set(re.findall(r"\w+", heads + caller.body))
             for dot, owner, name in CALL.findall(caller.body):
+                owner = caller.owner if owner == "Self" else owner
+                called = {owner if owner[:1].isupper() else ""}
                 if dot:
-                    called = called_types(caller, owners[name], types)
-                else:
-                    owner = caller.owner if owner == "Self" else owner
-                    called = {owner if owner[:1].isupper() else ""}
+                    called = {it for it in owners[name] if ({it} | types.get(it, set())) & words}
+                    called = called if len(called - types.keys()) <= 1 else set()
                 for item in (it for it in self.by_name[name] if it.source.crate in below):
                     if item.kind == "fn" and ({item.owner} | types.get(item.owner, set())) & called:
                         self.callers[item][caller] = True
-
-
-def called_types(caller, owners, types):
-    """The types that have a method of some name and that the caller names, or else its file if no
-    other type has one; none if several are left. `types` has those of each trait."""
-    head = caller.head + (caller.parent.head if caller.parent else "")
-    is_only = len(owners - types.keys()) == 1
-    for text in (head + caller.body, head, caller.source.text if is_only else ""):
-        words = set(re.findall(r"\w+", text))
-        named = {it for it in owners if it in words or words & types.get(it, set())}
-        if named and len(named - types.keys()) <= 1:
-            return named
-    return set()

@@ -54,7 +54,6 @@ async function toggle(link) {
 async function toggle_all(button) {
   const out = button.parentElement.nextElementSibling, opened = button.getAttribute('aria-expanded') == 'true'
   button.setAttribute('aria-expanded', String(!opened))
-  button.textContent = opened ? 'Unfold all' : 'Fold all'
   const kit = make('details', { innerHTML: '<summary>Words of the toolchain</summary>' }), ours = make('div'), seen = new Set()
   const todo = opened ? [] : [...button.closest('.item').querySelectorAll(':scope > .clause a.d')]
   for (const link of todo) {
@@ -62,20 +61,25 @@ async function toggle_all(button) {
     seen.add(link.href)
     const box = await box_of(key_of(link), null), is_kit = link.classList.contains('k')
     ;(is_kit ? kit : ours).append(box)
-    if (!is_kit) todo.push(...box.querySelectorAll('pre a.d'))
+    if (!is_kit) todo.push(...box.querySelectorAll(':scope > div > pre a.d'))
   }
+  const count = `Fold all ${ours.children.length} definitions of the project and ${kit.children.length - 1} words of the toolchain`
+  button.textContent = opened ? 'Unfold all' : count
   out.replaceChildren(...(opened ? [] : [ours, kit]))
 }
 
 function find() {
   const asked = by('query').value.toLowerCase().split(/[\s:.]+/).filter(Boolean), last = asked.at(-1), whole = asked.join('_')
-  const rank = ([name, kind]) => {
-    const short = name.toLowerCase().split('::').pop()
-    const near = [short == whole, short == last, short.startsWith(whole), kind == 'claim', short.startsWith(last), short.includes(last), true]
+  const short_of = ([name]) => name.toLowerCase().split('::').pop(), is_named = (short) => short.includes('_') && asked.includes(short)
+  const rank = (it) => {
+    const short = short_of(it), kind = it[1]
+    const near = [short == whole, short == last, is_named(short), short.startsWith(whole), kind == 'claim', short.startsWith(last), short.includes(last), true]
     return near.indexOf(true) + (['definition', 'ghost'].includes(kind) ? 0.5 : 0)
   }
-  const matches = (it) => asked.every((word) => `${it[2]} ${it[0]} ${it[4]}`.toLowerCase().includes(word))
-  const hits = asked.length ? names.filter(matches).sort((a, b) => rank(a) - rank(b)).slice(0, 30) : []
+  // What has all words, or else most of them, or a name that is one of them.
+  const words_in = (it, said = `${it[2]} ${it[0]} ${it[4]}`.toLowerCase()) => asked.filter((word) => said.includes(word)).length
+  const most = names.reduce((most, it) => Math.max(most, words_in(it)), 1)
+  const hits = asked.length ? names.filter((it) => words_in(it) == most || is_named(short_of(it))).sort((a, b) => rank(a) - rank(b)).slice(0, 30) : []
   by('hits').replaceChildren(...hits.map(([name, kind, module, href, said]) => {
     const row = make('li', { innerHTML: '<a><b></b> <span class=kind></span><br><span></span></a>' })
     row.firstChild.href = href
@@ -84,6 +88,7 @@ function find() {
     row.querySelector('span:last-child').textContent = said
     return row
   }))
+  if (asked.length && !hits.length) by('hits').append(make('li', { textContent: 'No name, claim or sentence has such a word.' }))
 }
 
 async function show_word() {
