@@ -47,6 +47,7 @@ copy_history_po = po copy_history_cmp_total copy_history_ties
 
 -- ---- hash
 
+-- the hash input of a copy history: of its path, its parents and its salt
 abbrev pub copy_history_hash : CopyHistoryValue → HashWrites
 copy_history_hash h = path_hash h.current_path ++ fed.slice (fed.slice fed.u8) h.parents
     ++ fed.slice fed.u8 h.salt

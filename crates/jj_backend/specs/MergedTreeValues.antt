@@ -98,9 +98,11 @@ with_file_ids (value ∷ values) (id ∷ ids) = with_file_id value id ∷ with_f
 abbrev pub newline : List ℕ
 newline = 10 ∷ []
 
+-- a kind of value with the hex digits of its id
 abbrev pub kind_and_id : List ℕ → List ℕ → List ℕ
 kind_and_id kind id = kind ++ (codes " with id " ++ hex id)
 
+-- the name of a kind of file, executable or not
 abbrev pub file_kind : Bool → List ℕ
 file_kind true = codes "executable file"
 file_kind false = codes "file"

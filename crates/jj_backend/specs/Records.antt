@@ -86,18 +86,20 @@ copy_history_eq =
     eq_of_both (on (λ h. h.current_path) path_eq)
     (eq_of_both (on (λ h. h.parents) (pointwise bytes_eq)) (on (λ h. h.salt) bytes_eq))
 
--- the fields of a commit in groups of three: ancestry and tree, message, and signatures
+-- equality of the parents, predecessors and trees of commits
 abbrev pub origin_eq : CommitValue → CommitValue → Bool
 origin_eq =
     eq_of_both (on (λ c. c.parents) (pointwise bytes_eq))
     (eq_of_both (on (λ c. c.predecessors) (pointwise bytes_eq))
     (on (λ c. c.root_tree) (pointwise bytes_eq)))
 
+-- equality of the conflict labels, change ids and descriptions of commits
 abbrev pub message_eq : CommitValue → CommitValue → Bool
 message_eq =
     eq_of_both (on (λ c. c.conflict_labels) (pointwise bytes_eq))
     (eq_of_both (on (λ c. c.change_id) bytes_eq) (on (λ c. c.description) bytes_eq))
 
+-- equality of the authors, committers and signatures of commits
 abbrev pub signers_eq : CommitValue → CommitValue → Bool
 signers_eq =
     eq_of_both (on (λ c. c.author) signature_eq)

@@ -525,6 +525,7 @@ pub fn content_of<T: ContentHash>(alloc: Global, value: &T) -> Result<Vec<u8>, A
 
 /// Two values of one type have the same content if and only if they are equal.
 pub fn content_decides<T: ContentHash>()
+    // Valid values of the type have equal contents exactly if they are equal.
     ensures { (x y : T) → T.is_value x → T.is_value y → (T.content x ≡ T.content y)
         ↔ (T.eq x y ≡ true) }
 {}

@@ -23,6 +23,7 @@ WritesMatches glob paths old new n = (n ≡ length paths) × AreMatches glob pat
 abbrev pub IsWellFormed : List ℕ → Type 0
 IsWellFormed glob = IsUtf8 glob × IsOk (tokens_of glob)
 
+-- these are ends of pieces of this many bytes, and the glob is well-formed
 abbrev pub IsValidCall : List ℕ → (len : ℕ) (ends : List ℕ) → Type 0
 IsValidCall glob len ends = (are_ends len ends ≡ true) × IsWellFormed glob
 

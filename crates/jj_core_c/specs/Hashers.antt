@@ -7,6 +7,7 @@ use Rattle.jj_content.specs.declared.blake2b.Blake2b512.{Blake2b512}
 use Rattle.jj_core_c.specs.declared.hasher.JjHasher.{JjHasher}
 use Rattle.jj_core_c.specs.Buffers.{Writes}
 
+-- whether the number is not 0
 abbrev pub is_nonzero : ℕ → Bool
 is_nonzero zero = false
 is_nonzero (suc n) = true

@@ -45,7 +45,7 @@ abbrev pub BeginsWith : {U S T : Type 0} → (U → S → Type 0) → (S → Opt
 BeginsWith {U} {S} becomes steps value xs = (it : S) × becomes value it
     × ((t : S) × Yields steps it xs t)
 
--- it yields some nodes first, and then this error
+-- the iterable yields some nodes first, and then this error
 abbrev pub FailsAfterNodes : {U S T E : Type 0} → (U → S → Type 0)
     → (S → Option (Result T E) → S → Type 0) → U → E → Type 0
 FailsAfterNodes {S = S} {T = T} becomes steps value error = (xs : List T)

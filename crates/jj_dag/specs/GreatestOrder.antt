@@ -7,8 +7,9 @@ use Rattle.std.specs.declared.cmp.Ordering.{Ordering}
 use Rattle.jj_dag.specs.Graph.{IsAcyclicFrom, IsTopologicalOrder}
 use Rattle.jj_dag.specs.Walk.{AreNodes, GraphModel}
 
--- the values are those of a child-first list of what the starts reach, which has no cycle; where
--- another such list first differs, the value here is not less than that of the node there
+-- the values are those of a topological order of the nodes that the starts reach, and these reach
+-- no cycle; where another such order first differs, the value here is not less than that of the
+-- node there
 pub record IsGreatestOrder {T ID : Type 0} (cmp : T → T → Ordering) (walk : GraphModel T ID)
     (starts : List ℕ) (order : List T) : Type 0 where
   pub nodes : AreNodes walk (map walk.node order)

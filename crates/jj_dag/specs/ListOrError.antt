@@ -9,6 +9,7 @@ use Rattle.jj_dag.specs.AllOk.{StepsOk}
 use Rattle.jj_dag.specs.declared.list_or_error.ListOrError.{ListOrError}
 use Rattle.jj_dag.specs.declared.list_or_error.ListOrError.TheVariants.{List, Error}
 
+-- the list, if there is one, may be advanced
 abbrev pub CanList : {I E : Type 0} → (I → Type 0) → ListOrError I E → Type 0
 CanList can (List it) = can it
 CanList can (Error o) = Unit {0}

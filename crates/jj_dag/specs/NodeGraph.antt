@@ -8,12 +8,12 @@ use Rattle.std.specs.List.{Contains}
 abbrev pub NodeGraph : Type 0 → Type 0
 NodeGraph A = A → List A
 
--- b is that many steps away from a
+-- there is a walk from a to b of this many steps
 abbrev pub NodePath : {A : Type 0} → NodeGraph A → A → A → ℕ → Type 0
 NodePath g a b zero = a ≡ b
 NodePath {A} g a b (suc steps) = (c : A) × Contains (g a) c × NodePath g c b steps
 
--- by one or more steps
+-- a reaches b by one or more steps
 abbrev pub StrictlyReachesNode : {A : Type 0} → NodeGraph A → A → A → Type 0
 StrictlyReachesNode g a b = (steps : ℕ) × NodePath g a b (suc steps)
 

@@ -227,9 +227,12 @@ where
     NI: IntoIterator<Item = T, IntoIter: Drop>,
     F: Fn(&T) -> Result<ID, AllocError> + Drop,
     N: FnMut(&T) -> Result<NI, E> + Drop,
+    // The closures may be called for any node, and return lists that end.
     requires graph { (graph_of_lists ID.eq F.Fn N.FnMut NI.IntoIterator NI.IntoIter.Iterator id_fn
         neighbors_fn).walkable }
+    // The list of the first set ends.
     requires set1 { (list_of {E = E} II1.IntoIterator II1.IntoIter.Iterator set1).finite }
+    // The list of the second set ends.
     requires set2 { (list_of {E = E} II2.IntoIterator II2.IntoIter.Iterator set2).finite }
     // In each graph that the closures implement, the nodes are exactly those that both sets reach
     // and that no other such node reaches, each once, if no cycle is reached from both sets.

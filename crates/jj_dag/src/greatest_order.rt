@@ -39,9 +39,12 @@ where
     F: Fn(&T) -> Result<ID, AllocError> + Drop,
     N: FnMut(&T) -> NI + Drop,
     C: FnOnce(T) -> E + Drop,
+    // The closures may be called for any node, and return lists that end.
     requires graph { (graph_of_items ID.eq F.Fn N.FnMut NI.IntoIterator NI.IntoIter.Iterator id_fn
         neighbors_fn).walkable }
+    // `cycle_fn` may be called with any node.
     requires cycle_fn { C.IsAlwaysCallable cycle_fn }
+    // The list of starts ends.
     requires start { (list_of_items II.IntoIterator II.IntoIter.Iterator start).finite }
     // In each graph that the closures implement, the order has the nodes that the starts reach,
     // each once and before its neighbors, and they reach no cycle; where another such order first

@@ -161,9 +161,12 @@ where
     NI: IntoIterator<Item = Result<T, E>, IntoIter: Drop>,
     F: Fn(&T) -> Result<ID, AllocError> + Drop,
     N: FnMut(&T) -> NI + Drop,
+    // The closures may be called for any node, and return lists that end.
     requires graph { (graph_of_items ID.eq F.Fn N.FnMut NI.IntoIterator NI.IntoIter.Iterator
         id_fn neighbors_fn).walkable }
+    // The list of starts ends.
     requires start { (list_of_items II.IntoIterator II.IntoIter.Iterator start).finite }
+    // A clone equals its original.
     requires clones { (x y : T) → T.is_clone x y → IsTrue (T.eq x y) }
     // In each graph that the closures implement, the heads are exactly the starts that no other
     // start reaches, if the starts reach no cycle and equal values are one node.

@@ -26,6 +26,7 @@ IsWithinDay seconds = (negsuc 86399 ≤ℤ seconds) × (seconds ≤ℤ pos 86400
 abbrev pub least_offset : ℤ
 least_offset = negsuc 1438
 
+-- the greatest offset of a time zone, in minutes
 abbrev pub greatest_offset : ℤ
 greatest_offset = pos 1439
 

@@ -29,6 +29,7 @@ pub record AreContents {X : Type 0} (is_value : X → Type 0) (content : X → L
 abbrev pub BothContents : (List ℕ → Type 0) → (List ℕ → Type 0) → List ℕ → Type 0
 BothContents first second = IsContentOf (AreBoth first second) (both_content (λ b. b) (λ b. b))
 
+-- the contents of options of values with these contents
 abbrev pub OptionContents : (List ℕ → Type 0) → List ℕ → Type 0
 OptionContents is_content = IsContentOf (IsOptionOf is_content) (option_content (λ b. b))
 

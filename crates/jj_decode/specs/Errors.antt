@@ -17,6 +17,7 @@ use Rattle.jj_decode.specs.Decoding.{IsContentAt, AreItems, AreBoth, AreEntries,
 
 -- ---- values without parts
 
+-- there is no error
 abbrev pub NoErrors : List ℕ → ℕ → DecodeError → Type 0
 NoErrors bytes start e = ⊥
 
@@ -24,6 +25,7 @@ NoErrors bytes start e = ⊥
 abbrev pub IntegerErrors : ℕ → List ℕ → ℕ → DecodeError → Type 0
 IntegerErrors size bytes start e = (length bytes < start + size) × (e ≡ Malformed Truncated start)
 
+-- the errors of a boolean: its byte is missing, or neither 0 nor 1
 abbrev pub BoolErrors : List ℕ → ℕ → DecodeError → Type 0
 BoolErrors bytes start e = IntegerErrors 1 bytes start e
     ⊎ ((tag : ℕ) × (end : ℕ) × IsContentAt (λ n. n < 2 ^ 8) (λ n. n ∷ []) bytes start tag end
@@ -55,6 +57,7 @@ StrErrors bytes start e = CountErrors bytes start e
     ⊎ ((text : List ℕ) × (end : ℕ) × IsContentAt FitsLength string_content bytes start text end
     × (¬ IsUtf8 text) × (e ≡ Malformed InvalidUtf8 start))
 
+-- the errors of an owned string: those of the string, or out of memory for its copy
 abbrev pub StringErrors : List ℕ → ℕ → DecodeError → Type 0
 StringErrors bytes start e = StrErrors bytes start e
     ⊎ ((text : List ℕ) × (end : ℕ) × IsContentAt IsString string_content bytes start text end
@@ -77,6 +80,8 @@ BothErrors {X} is_value content first second bytes start e = first bytes start e
 
 -- ---- enums: a number of a variant, then its fields
 
+-- the errors of a value with a tag: those of the tag, an unknown tag, or those of the fields of its
+-- variant
 abbrev pub VariantErrors : ℕ → (ℕ → List ℕ → ℕ → DecodeError → Type 0) → List ℕ → ℕ → DecodeError
     → Type 0
 VariantErrors variants fields bytes start e = IntegerErrors 4 bytes start e
@@ -84,11 +89,13 @@ VariantErrors variants fields bytes start e = IntegerErrors 4 bytes start e
     × (((variants ≤ tag) × (e ≡ Malformed UnknownTag start))
     ⊎ ((tag < variants) × fields tag bytes end e)))
 
+-- the errors of the fields of an option, by its tag
 abbrev pub option_fields : (List ℕ → ℕ → DecodeError → Type 0) → ℕ → List ℕ → ℕ → DecodeError
     → Type 0
 option_fields errors zero = NoErrors
 option_fields errors (suc n) = errors
 
+-- the errors of an option of a value with these errors
 abbrev pub OptionErrors : (List ℕ → ℕ → DecodeError → Type 0) → List ℕ → ℕ → DecodeError → Type 0
 OptionErrors errors = VariantErrors 2 (option_fields errors)
 
@@ -106,7 +113,7 @@ pub record IsCountAt (bytes : List ℕ) (start count end : ℕ) : Type 0 where
   pub is_count : IsContentAt (λ n. n < 2 ^ 64) u64_content bytes start count end
   pub bounded : end + count ≤ length bytes
 
--- after a count for which the remaining bytes suffice: memory runs out, or an error of its items
+-- the errors of counted items: those of the count, out of memory, or those of the items
 abbrev pub CountedErrors : (ℕ → List ℕ → ℕ → DecodeError → Type 0) → List ℕ → ℕ → DecodeError
     → Type 0
 CountedErrors items bytes start e = CountErrors bytes start e
@@ -119,7 +126,7 @@ abbrev pub ListErrors : {X : Type 0} → (X → Type 0) → (X → List ℕ)
 ListErrors is_value content errors =
     CountedErrors (λ count. ItemErrors count is_value content errors)
 
--- a list of an odd length
+-- the errors of reading a merge: those of a list, or that the count is even
 abbrev pub MergeErrors : {X : Type 0} → (X → Type 0) → (X → List ℕ)
     → (List ℕ → ℕ → DecodeError → Type 0) → List ℕ → ℕ → DecodeError → Type 0
 MergeErrors is_value content errors bytes start e = CountErrors bytes start e
@@ -129,6 +136,8 @@ MergeErrors is_value content errors bytes start e = CountErrors bytes start e
 
 -- ---- maps and sets: an error of an entry after those before it, or its key is not greater
 
+-- the errors of a map's entries, after some of them: those of an entry, or that its key is not
+-- greater than the one before
 abbrev pub EntryErrors : {K V : Type 0} → (K → K → Ordering) → (K → Type 0) → (K → List ℕ)
     → (List ℕ → ℕ → DecodeError → Type 0) → (V → Type 0) → (V → List ℕ)
     → (List ℕ → ℕ → DecodeError → Type 0) → ℕ → List ℕ → ℕ → DecodeError → Type 0
@@ -141,12 +150,15 @@ EntryErrors {K} {V} cmp is_key key_content key is_value value_content value coun
     (entry_content key_content value_content) bytes end next after
     × (¬ (IsGreater cmp (keys_of es) next.0)) × (e ≡ Malformed UnorderedKeys end)))
 
+-- the errors of a map: those of the count, out of memory, or those of the entries
 abbrev pub MapErrors : {K V : Type 0} → (K → K → Ordering) → (K → Type 0) → (K → List ℕ)
     → (List ℕ → ℕ → DecodeError → Type 0) → (V → Type 0) → (V → List ℕ)
     → (List ℕ → ℕ → DecodeError → Type 0) → List ℕ → ℕ → DecodeError → Type 0
 MapErrors cmp is_key key_content key is_value value_content value =
     CountedErrors (EntryErrors cmp is_key key_content key is_value value_content value)
 
+-- the errors of a set's members, after some of them: those of a member, or that it is not greater
+-- than the one before
 abbrev pub MemberErrors : {K : Type 0} → (K → K → Ordering) → (K → Type 0) → (K → List ℕ)
     → (List ℕ → ℕ → DecodeError → Type 0) → ℕ → List ℕ → ℕ → DecodeError → Type 0
 MemberErrors {K} cmp is_value content errors count bytes start e =
@@ -156,6 +168,7 @@ MemberErrors {K} cmp is_value content errors count bytes start e =
     ⊎ ((next : K) × (after : ℕ) × IsContentAt is_value content bytes end next after
     × (¬ (IsGreater cmp ks next)) × (e ≡ Malformed UnorderedKeys end)))
 
+-- the errors of a set: those of the count, out of memory, or those of the members
 abbrev pub SetErrors : {K : Type 0} → (K → K → Ordering) → (K → Type 0) → (K → List ℕ)
     → (List ℕ → ℕ → DecodeError → Type 0) → List ℕ → ℕ → DecodeError → Type 0
 SetErrors cmp is_value content errors = CountedErrors (MemberErrors cmp is_value content errors)

@@ -9,6 +9,7 @@ use Rattle.jj_decode.specs.ContentsProofs.{contents_lawful, contents_of, items_c
 use Rattle.jj_decode.specs.NonemptyProofs.{list_nonempty}
 use Rattle.jj_merges.specs.Contents.{IsMergeOf, merge_lawful}
 
+-- the contents of merges of terms with these contents
 abbrev pub MergeContents : (List ℕ → Type 0) → List ℕ → Type 0
 MergeContents is_content = IsContentOf (IsMergeOf is_content) (list_content (λ b. b))
 

@@ -18,6 +18,7 @@ use Rattle.jj_stores.specs.Operations.{IsRange, range_content, IsEvent, event_co
 
 -- ---- time ranges
 
+-- the contents of time ranges
 abbrev pub RangeContents : List ℕ → Type 0
 RangeContents = BothContents TimestampContents TimestampContents
 
@@ -27,6 +28,7 @@ range_contents = contents_on (λ range. (range.start, range.end))
 
 -- ---- metadata: time and description; host and user; snapshot flag, workspace and attributes
 
+-- the contents of the times and descriptions of metadata
 abbrev pub EventContents : List ℕ → Type 0
 EventContents = BothContents RangeContents StringContents
 
@@ -34,6 +36,7 @@ event_contents : AreContents IsEvent event_content EventContents
 event_contents = contents_on (λ m. (m.time, string_bytes m.description))
     (both_contents range_contents string_contents)
 
+-- the contents of the hosts and users of metadata
 abbrev pub AgentContents : List ℕ → Type 0
 AgentContents = BothContents StringContents StringContents
 
@@ -41,6 +44,7 @@ agent_contents : AreContents IsAgent agent_content AgentContents
 agent_contents = contents_on (λ m. (string_bytes m.hostname, string_bytes m.username))
     (both_contents string_contents string_contents)
 
+-- the contents of attributes
 abbrev pub AttributesContents : List ℕ → Type 0
 AttributesContents = MapContents {K = String Global} {V = String Global} string_cmp
     (λ s. IsText (string_bytes s)) (λ s. string_content (string_bytes s))
@@ -51,6 +55,7 @@ attributes_contents : AreContents (AreAttributes {A = Global}) (attributes_conte
 attributes_contents = map_contents string_cmp (on_lawful string_bytes text_lawful)
     (on_lawful string_bytes text_lawful)
 
+-- the contents of the snapshot flags, workspaces and attributes of metadata
 abbrev pub ContextContents : List ℕ → Type 0
 ContextContents = BothContents (IsContentOf (λ _. ⊤) bool_content)
     (BothContents (OptionContents StringContents) AttributesContents)
@@ -60,6 +65,7 @@ context_contents = contents_on (λ m. (m.is_snapshot, (m.workspace_name, m.attri
     (both_contents bool_contents
     (both_contents (option_contents string_contents) attributes_contents))
 
+-- the contents of metadata
 abbrev pub MetadataContents : List ℕ → Type 0
 MetadataContents = BothContents EventContents (BothContents AgentContents ContextContents)
 
@@ -69,6 +75,7 @@ metadata_contents = contents_on (λ m. (m, (m, m)))
 
 -- ---- operations: the view and the parents; the metadata and the predecessors
 
+-- the contents of the predecessors of operations
 abbrev pub PredecessorsContents : List ℕ → Type 0
 PredecessorsContents = MapContents {K = List ℕ} {V = Vec (List ℕ) Global} (slice_cmp nat_cmp)
     AreBytes bytes_content
@@ -79,6 +86,7 @@ predecessors_contents : AreContents (ArePredecessors {A = Global})
 predecessors_contents = contents_on (λ m. m.entries) (map_contents (slice_cmp nat_cmp) bytes_lawful
     (on_lawful (λ ids. ids.items) (list_lawful bytes_lawful)))
 
+-- the contents of the views and parents of operations
 abbrev pub LinksContents : List ℕ → Type 0
 LinksContents = BothContents BytesContents (ListContents BytesContents)
 
@@ -86,6 +94,7 @@ links_contents : AreContents AreLinks links_content LinksContents
 links_contents = contents_on (λ o. (o.view_id, o.parents.items))
     (both_contents bytes_contents (list_contents bytes_contents))
 
+-- the contents of the metadata and predecessors of operations
 abbrev pub DetailsContents : List ℕ → Type 0
 DetailsContents = BothContents MetadataContents (OptionContents PredecessorsContents)
 
@@ -93,6 +102,7 @@ details_contents : AreContents AreDetails details_content DetailsContents
 details_contents = contents_on (λ o. (o.metadata, o.commit_predecessors))
     (both_contents metadata_contents (option_contents predecessors_contents))
 
+-- the contents of operations
 abbrev pub OperationContents : List ℕ → Type 0
 OperationContents = BothContents LinksContents DetailsContents
 

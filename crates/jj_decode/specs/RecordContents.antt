@@ -15,9 +15,11 @@ use Rattle.jj_backend.specs.Contents.{AreBytes, bytes_content, IsMillis, millis_
 
 -- ---- strings, and byte lists (ids and data)
 
+-- the contents of strings
 abbrev pub StringContents : List ℕ → Type 0
 StringContents = IsContentOf IsString string_content
 
+-- the contents of byte strings
 abbrev pub BytesContents : List ℕ → Type 0
 BytesContents = ListContents (IsContentOf (λ byte. byte < 2 ^ 8) (λ byte. byte ∷ []))
 
@@ -26,12 +28,14 @@ bytes_contents = list_contents u8_contents
 
 -- ---- timestamps
 
+-- the contents of times in milliseconds
 abbrev pub MillisContents : List ℕ → Type 0
 MillisContents = IsContentOf (FitsSigned w64) i64_content
 
 pub millis_contents : AreContents IsMillis millis_content MillisContents
 millis_contents = contents_on (λ millis. millis.0) i64_contents
 
+-- the contents of timestamps
 abbrev pub TimestampContents : List ℕ → Type 0
 TimestampContents = BothContents MillisContents (IsContentOf (FitsSigned w32) i32_content)
 
@@ -41,6 +45,7 @@ timestamp_contents = contents_on (λ time. (time.timestamp, time.tz_offset))
 
 -- ---- signatures
 
+-- the contents of authors and committers
 abbrev pub SignatureContents : List ℕ → Type 0
 SignatureContents = BothContents StringContents (BothContents StringContents TimestampContents)
 
@@ -48,6 +53,7 @@ pub signature_contents : AreContents IsSignature signature_content SignatureCont
 signature_contents = contents_on (λ s. (s.name, (s.email, s.timestamp)))
     (both_contents string_contents (both_contents string_contents timestamp_contents))
 
+-- the contents of cryptographic signatures
 abbrev pub SecureSigContents : List ℕ → Type 0
 SecureSigContents = BothContents BytesContents BytesContents
 
@@ -57,6 +63,7 @@ secure_sig_contents = contents_on (λ s. (s.signed_data, s.sig))
 
 -- ---- copy histories
 
+-- the contents of copy histories
 abbrev pub CopyHistoryContents : List ℕ → Type 0
 CopyHistoryContents = BothContents (IsContentOf IsPathText string_content)
     (BothContents (ListContents BytesContents) BytesContents)
@@ -68,6 +75,7 @@ copy_history_contents = contents_on (λ h. (h.current_path, (h.parents, h.salt))
 -- ---- commits: ancestry and tree; labels, change id and description; author, committer and
 -- signature
 
+-- the contents of the parents, predecessors and trees of commits
 abbrev pub OriginContents : List ℕ → Type 0
 OriginContents = BothContents (ListContents BytesContents)
     (BothContents (ListContents BytesContents) (MergeContents BytesContents))
@@ -77,6 +85,7 @@ origin_contents = contents_on (λ c. (c.parents, (c.predecessors, c.root_tree)))
     (both_contents (list_contents bytes_contents)
     (both_contents (list_contents bytes_contents) (merge_contents bytes_contents)))
 
+-- the contents of the conflict labels, change ids and descriptions of commits
 abbrev pub MessageContents : List ℕ → Type 0
 MessageContents = BothContents (MergeContents StringContents)
     (BothContents BytesContents StringContents)
@@ -85,6 +94,7 @@ message_contents : AreContents IsMessage message_content MessageContents
 message_contents = contents_on (λ c. (c.conflict_labels, (c.change_id, c.description)))
     (both_contents (merge_contents string_contents) (both_contents bytes_contents string_contents))
 
+-- the contents of the authors, committers and signatures of commits
 abbrev pub SignersContents : List ℕ → Type 0
 SignersContents = BothContents SignatureContents
     (BothContents SignatureContents (OptionContents SecureSigContents))
@@ -94,6 +104,7 @@ signers_contents = contents_on (λ c. (c.author, (c.committer, c.secure_sig)))
     (both_contents signature_contents
     (both_contents signature_contents (option_contents secure_sig_contents)))
 
+-- the contents of commits
 abbrev pub CommitContents : List ℕ → Type 0
 CommitContents = BothContents OriginContents (BothContents MessageContents SignersContents)
 

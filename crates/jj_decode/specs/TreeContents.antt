@@ -24,6 +24,7 @@ use Rattle.jj_decode.specs.RecordContents.{BytesContents, bytes_contents}
 
 -- ---- tree values: the variant's number before its fields
 
+-- the contents of files in trees
 abbrev pub FileContents : List ℕ → Type 0
 FileContents = BothContents BytesContents
     (BothContents (IsContentOf (λ _. ⊤) bool_content) BytesContents)
@@ -33,6 +34,7 @@ abbrev pub FieldsContents : ℕ → List ℕ → Type 0
 FieldsContents zero = FileContents
 FieldsContents (suc n) = BytesContents
 
+-- the contents of values of tree entries
 abbrev pub TreeValueContents : List ℕ → Type 0
 TreeValueContents = VariantContents 4 FieldsContents
 
@@ -75,6 +77,7 @@ tree_value_contents = variant_contents IsTreeValue tree_value_content 4 FieldsCo
 
 -- ---- trees
 
+-- the contents of trees
 abbrev pub TreeContents : List ℕ → Type 0
 TreeContents = IsContentOf IsTree tree_content
 

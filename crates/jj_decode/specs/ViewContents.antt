@@ -23,12 +23,14 @@ use Rattle.jj_content.specs.Content.{IsLawful}
 
 -- ---- refs
 
+-- the contents of targets of refs
 abbrev pub TargetContents : List ℕ → Type 0
 TargetContents = MergeContents (OptionContents BytesContents)
 
 pub target_contents : AreContents IsTarget target_content TargetContents
 target_contents = merge_contents (option_contents bytes_contents)
 
+-- the contents of states of remote refs
 abbrev pub StateContents : List ℕ → Type 0
 StateContents = IsContentOf (λ (_ : RemoteRefState). Unit {0}) state_content
 
@@ -40,6 +42,7 @@ pub state_contents : AreContents (λ _. Unit {0}) state_content StateContents
 state_contents = contents_of state_lawful
     (λ state _. u32_nonempty (state_number state) (small_number state))
 
+-- the contents of remote refs
 abbrev pub RemoteRefContents : List ℕ → Type 0
 RemoteRefContents = BothContents TargetContents StateContents
 
@@ -50,6 +53,7 @@ remote_ref_contents = contents_on (λ remote. (remote.target, remote.state))
 -- ---- maps from names
 
 module _ {V : Type 0} where
+  -- the contents of maps by names
   abbrev pub NamedContents : (V → Type 0) → (V → List ℕ) → List ℕ → Type 0
   NamedContents is_value content = MapContents (slice_cmp nat_cmp) IsText string_content
       is_value content
@@ -58,6 +62,7 @@ module _ {V : Type 0} where
       → AreContents (AreNamed v) (named_content c) (NamedContents v c)
   named_contents laws = map_contents (slice_cmp nat_cmp) text_lawful laws
 
+-- the contents of the refs of a remote
 abbrev pub RemoteViewContents : List ℕ → Type 0
 RemoteViewContents = BothContents (NamedContents IsRemoteRef remote_ref_content)
     (NamedContents IsRemoteRef remote_ref_content)
@@ -68,6 +73,7 @@ remote_view_contents = contents_on (λ view. (view.bookmarks.entries, view.tags.
 
 -- ---- views: heads and local refs; remote and Git refs; Git heads and working-copy commits
 
+-- the contents of the heads and the local bookmarks and tags of views
 abbrev pub LocalContents : List ℕ → Type 0
 LocalContents = BothContents (SetContents (slice_cmp nat_cmp) AreBytes bytes_content)
     (BothContents (NamedContents IsTarget target_content) (NamedContents IsTarget target_content))
@@ -78,6 +84,7 @@ local_contents =
     (both_contents (hash_set_contents nat_list_cmp_total texts_ties bytes_lawful)
     (both_contents (named_contents target_lawful) (named_contents target_lawful)))
 
+-- the contents of views
 abbrev pub ViewContents : List ℕ → Type 0
 ViewContents = BothContents LocalContents
     (BothContents (BothContents (NamedContents IsRemoteView remote_view_content)

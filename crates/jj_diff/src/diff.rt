@@ -39,10 +39,16 @@ pub fn diff_by_line<'a>(
     inputs: &[&'a [u8]],
     base: usize,
 ) -> Result<Vec<DiffHunk<'a>>, AllocError>
+    // The hunks' parts of an input join to it, kinds alternate, matching parts are equal, no hunk
+    // is empty in all inputs, and none starts or ends within a line.
     ensures diff { IfOk result (λ hunks. IsDiff is_line_end (bytes_of inputs.now) hunks.items) }
+    // The lines that all inputs start with match, and of the other lines those that all end with.
     ensures ends { IfOk result
         (λ hunks. MatchesEnds is_line_end (bytes_of inputs.now) hunks.items) }
+    // No hunk that differs starts or ends with a line that is equal in all inputs; one of at most
+    // 64 lines an input has no line that occurs once in each part.
     ensures trimmed { IfOk result (λ hunks. AreTrimmed is_line_end hunks.items) }
+    // Equal inputs have no hunk that differs.
     ensures identity { IfOk result
         (λ hunks. AreEqual (bytes_of inputs.now) → AllMatch hunks.items) }
 {

@@ -58,7 +58,7 @@ IsTermError files may_fail None e = e ≡ Memory
 IsTermError files may_fail (Some id) e =
     (e ≡ Memory) ⊎ MatchBool (is_not_found e) (files id ≡ None) (may_fail e)
 
--- those of reading the contents of terms
+-- the errors of reading the contents of terms
 abbrev pub IsTermsError : ById (List ℕ) → (BackendError → Type 0) → List (Option (List ℕ))
     → BackendError → Type 0
 IsTermsError files may_fail ids e =

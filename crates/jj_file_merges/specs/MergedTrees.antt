@@ -84,6 +84,7 @@ module _ {B : Type 0} (objects : B → Objects) (may_fail : B → BackendError �
       ⊎ ((content : List ℕ) × IsMarkedContent (objects store).files level same style conflict.1
       conflict.2 (Some content) × may_fail_to_write store (file_object content) e)
 
+  -- the errors of a conflict with markers in this style; none without a style
   abbrev pub IsStyleError : Option ConflictMarkerStyle → B → PathConflict → BackendError → Type 0
   IsStyleError None store conflict e = ⊥
   IsStyleError (Some style) store conflict e = IsMarkError style store conflict e

@@ -3,7 +3,7 @@
 use Rattle.std.specs.Prelude.{ℕ, List}
 use Rattle.jj_files.specs.declared.file_util.errors.SourceKind.{SourceKind}
 
--- its kind, and the bytes of its message
+-- the cause of an error: its kind, and the bytes of its message
 pub record Cause : Type 0 where
   pub kind : SourceKind
   pub message : List ℕ

@@ -32,6 +32,7 @@ pub record Streams : Type 0 where
   pub unread : Option (List ℕ)
   pub written : Option (List ℕ)
 
+-- the bytes that remain to be read, and those that were written
 abbrev pub streams : Option (List ℕ) → Option (List ℕ) → Streams
 streams unread written = record { unread = unread; written = written }
 

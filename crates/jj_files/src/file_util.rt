@@ -184,7 +184,9 @@ pub fn write_all<W: Sink>(writer: &mut W, piece: &[u8]) -> io::Result<()>
 /// `usize::MAX`. Returns the first error of a read or a write; the bytes written are then a prefix
 /// of the bytes read. Does not allocate: the buffer of 16 KiB is on the stack.
 pub fn copy<R: Source, W: Sink>(reader: &mut R, writer: &mut W) -> io::Result<usize>
+    // No read has failed before.
     requires reader_works { R.has_failed reader.old ≡ false }
+    // No write has failed before.
     requires writer_works { W.has_failed writer.old ≡ false }
     // On success all bytes left were read and written, and the result is their number, or
     // `usize::MAX` if there are more.

@@ -32,11 +32,12 @@ ended_lines end lines = flat_map (λ line. line ++ end ∷ []) lines
 
 -- 2. Lines that are paths.
 
--- in double quotes
+-- whether the line is in double quotes
 abbrev pub is_quoted : List ℕ → Bool
 is_quoted line = nat_lt 1 (length line) && (slice_index line 0 == 34)
     && (slice_index line (length line - 1) == 34)
 
+-- whether the line ends in a carriage return
 abbrev pub ends_in_return : List ℕ → Bool
 ends_in_return line = nat_lt 0 (length line) && (slice_index line (length line - 1) == 13)
 

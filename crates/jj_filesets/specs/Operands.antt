@@ -57,6 +57,7 @@ path_pattern prefix at string =
     then Ok (if prefix then PrefixPath (components string) else FilePath (components string))
     else Err (Syntax at InvalidPath)
 
+-- the pattern of a parsed glob, or the glob's error
 abbrev pub parsed_glob : Bool → ℕ → List ℕ → Result (List Token) GlobError
     → Result FilePattern FilesetParseError
 parsed_glob prefix at string (Ok tokens) =
@@ -68,6 +69,7 @@ parsed_glob prefix at string (Err error) = Err (Syntax at (InvalidGlob error))
 abbrev pub glob_pattern : Bool → ℕ → List ℕ → Result FilePattern FilesetParseError
 glob_pattern prefix at string = parsed_glob prefix at string (tokens_of string)
 
+-- the pattern that a string is by its kind
 unfoldable pub text_pattern : PatternKind → ℕ → List ℕ → Result FilePattern FilesetParseError
 text_pattern Prefix at string = path_pattern true at string
 text_pattern File at string = path_pattern false at string
@@ -88,6 +90,7 @@ pattern_of kind at string =
 
 -- 3. The operand at the start of a string, and the rest of the string.
 
+-- the pattern of a string of this kind, and the rest of the string
 unfoldable pub string_pattern_at : ℕ → PatternKind → List ℕ
     → Result (FilePattern × List ℕ) FilesetParseError
 string_pattern_at total kind text = string_at total text >>= λ string.
@@ -109,9 +112,11 @@ abbrev pub call_of : ℕ → ℕ → Option FilePattern → List ℕ
 call_of total at (Some pattern) text = arguments_at total pattern text
 call_of total at None text = Err (Syntax at NoSuchFunction)
 
+-- the call of the function of this name, and the rest of the string
 unfoldable pub call_at : ℕ → ℕ → List ℕ → List ℕ → Result (FilePattern × List ℕ) FilesetParseError
 call_at total at name text = call_of total at (function_named name) text
 
+-- the pattern after its kind and `:`, and the rest of the string
 abbrev pub kinded_at : ℕ → ℕ → Option PatternKind → List ℕ
     → Result (FilePattern × List ℕ) FilesetParseError
 kinded_at total at (Some kind) text = string_pattern_at total kind text

@@ -31,6 +31,7 @@ applied Complement (set ∷ stack) = complement set ∷ stack
 applied operator (second ∷ first ∷ stack) = joined operator first second ∷ stack
 applied operator stack = []
 
+-- the stack of syntax trees after this step
 abbrev pub performed : Step → List SyntaxTree → List SyntaxTree
 performed (Push leaf) stack = pattern leaf ∷ stack
 performed (Apply operator) stack = applied operator stack
@@ -40,6 +41,7 @@ abbrev pub built : List Step → List SyntaxTree → List SyntaxTree
 built [] stack = stack
 built (step ∷ steps) stack = built steps (performed step stack)
 
+-- the syntax tree on top of the stack; that of the empty set if there is none
 abbrev pub top_of : List SyntaxTree → SyntaxTree
 top_of [] = pattern Nothing
 top_of (set ∷ stack) = set

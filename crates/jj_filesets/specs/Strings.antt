@@ -75,10 +75,12 @@ escaped_byte b =
     else (if b == 101 then Literal 27
     else (if b == 120 then Within HighDigit else Invalid))))))
 
+-- the state after the first hex digit of an escape, if it is one
 abbrev pub high_digit : Option ℕ → QuotedByte
 high_digit (Some high) = Within (LowDigit high)
 high_digit None = Invalid
 
+-- the byte of an escape's two hex digits, if the second is one
 abbrev pub low_digit : ℕ → Option ℕ → QuotedByte
 low_digit high (Some low) = Literal ((16 * high + low) % 256)
 low_digit high None = Invalid

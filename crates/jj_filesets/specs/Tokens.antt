@@ -17,6 +17,7 @@ symbol_token b =
     else (if b == 38 then Some Ampersand
     else (if b == 126 then Some Tilde else None))))
 
+-- the token, if there is one, with the rest of the string
 abbrev pub with_rest : Option Token → List ℕ → Option (Token × List ℕ)
 with_rest (Some token) rest = Some (token, rest)
 with_rest None rest = None
@@ -26,6 +27,7 @@ abbrev pub first_symbol : List ℕ → Option (Token × List ℕ)
 first_symbol [] = None
 first_symbol (b ∷ bs) = with_rest (symbol_token b) bs
 
+-- an operand as a token, and the rest of the string
 abbrev pub operand_token_at : ℕ → List ℕ → Result (Token × List ℕ) FilesetParseError
 operand_token_at total text = operand_at total text >>= λ read. Ok (Operand read.0, read.1)
 

@@ -22,11 +22,12 @@ abbrev pub failure_status : {F : Type 0} → (F → ℕ) → Failure F → ℕ
 failure_status status (Input fault) = status fault
 failure_status status failure = 1
 
+-- the message of arguments that could not be read
 abbrev pub arguments_error_text : ArgumentsError → List ℕ
 arguments_error_text Memory' = codes "out of memory"
 arguments_error_text NotUtf8 = codes "an argument is not UTF-8"
 
--- that of a wrong command line is 2
+-- the exit status of arguments that could not be read: 2, or 1 out of memory
 abbrev pub arguments_error_status : ArgumentsError → ℕ
 arguments_error_status Memory' = 1
 arguments_error_status NotUtf8 = 2
@@ -41,7 +42,8 @@ abbrev pub WritesLine : (old new : Option (List ℕ)) → (failed : Bool) → Li
 WritesLine old new failed line =
     AppendsPrefixOf old new line × (failed ≡ false → Appends old new line)
 
--- likewise, but nothing happens for an empty line
+-- the line was appended, or a prefix of it by a sink that then failed; an empty line changes
+-- nothing
 abbrev pub Reports : (old new : Option (List ℕ)) → (failed : Bool) → List ℕ → Type 0
 Reports old new failed [] = new ≡ old
 Reports old new failed (b ∷ bs) = WritesLine old new failed (b ∷ bs)

@@ -82,10 +82,10 @@ pub fn run<P: Filter, R: Source, W: Sink>(
     ensures ends { EndsBy (P.yields filter.now) (P.fails filter.now)
         (streams (R.remaining reader.old) (W.contents writer.old))
         (streams (R.remaining reader.new) (W.contents writer.new)) result }
-    // The source has failed exactly if the failure says so.
+    // The source has failed exactly if the failure is a failed read.
     ensures read_failure { R.has_failed reader.old ≡ false
         → R.has_failed reader.new ≡ is_read_failure result }
-    // The sink has failed exactly if the failure says so.
+    // The sink has failed exactly if the failure is a failed write.
     ensures write_failure { W.has_failed writer.old ≡ false
         → W.has_failed writer.new ≡ is_write_failure result }
     // A failed write is one to a closed output exactly if the sink's error is a broken pipe.
@@ -101,8 +101,8 @@ pub fn run<P: Filter, R: Source, W: Sink>(
     Ok(outcome)
 }
 
-/// Runs the filter, says on `errors` what its outcome or its failure says, and returns the exit
-/// status. Error reporting does not allocate; a failing `errors` does not change the status.
+/// Runs the filter, reports its outcome or its failure on `errors`, and returns the exit status.
+/// Error reporting does not allocate; a failing `errors` does not change the status.
 pub fn start<P: Filter, R: Source, W: Sink, E: Sink>(
     alloc: Global,
     program: &str,

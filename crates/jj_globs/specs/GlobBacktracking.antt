@@ -30,9 +30,11 @@ abbrev pub past_slash : Test → Test
 past_slash next [] = false
 past_slash next (b ∷ bs) = ((b == 47) && next bs) || past_slash next bs
 
+-- whether the byte is `/`
 abbrev pub is_slash : ℕ → Bool
 is_slash b = b == 47
 
+-- true for any byte
 abbrev pub any_byte : ℕ → Bool
 any_byte b = true
 
@@ -54,20 +56,24 @@ pub record Tests : Type 0 where
   pub here : Test
   pub outer : List (Test × Test)
 
+-- before a `,`: the test so far is an alternative of the innermost group
 abbrev pub test_or : Test → List (Test × Test) → Tests
 test_or t [] = record { here = t; outer = [] }
 test_or t (g ∷ gs) = record { here = g.1; outer = ((λ bs. t bs || g.0 bs), g.1) ∷ gs }
 
+-- before a `{`: the innermost group is complete
 abbrev pub test_open : Test → List (Test × Test) → Tests
 test_open t [] = record { here = t; outer = [] }
 test_open t (g ∷ gs) = record { here = (λ bs. t bs || g.0 bs); outer = gs }
 
+-- the state before this token, from the one after it
 abbrev pub test_before : Options → Token → Tests → Tests
 test_before o (part p) r = record { here = part_then o p r.here; outer = r.outer }
 test_before o Close r = record { here = r.here; outer = ((λ _. false), r.here) ∷ r.outer }
 test_before o Or r = test_or r.here r.outer
 test_before o Open r = test_open r.here r.outer
 
+-- whether no byte is left
 abbrev pub is_empty : Test
 is_empty [] = true
 is_empty (b ∷ bs) = false
@@ -77,6 +83,7 @@ abbrev pub tests_before : Options → Test → List Token → Tests
 tests_before o end [] = record { here = end; outer = [] }
 tests_before o end (t ∷ ts) = test_before o t (tests_before o end ts)
 
+-- the tests of all tokens, which have to match to the end
 abbrev pub tests_of : Options → List Token → Tests
 tests_of o ts = tests_before o is_empty ts
 
@@ -86,10 +93,12 @@ pub data Outcome : Type 0 where
   unmatched : Outcome
   malformed : GlobError → Outcome
 
+-- the outcome of a test
 abbrev pub outcome_of : Bool → Outcome
 outcome_of true = matched
 outcome_of false = unmatched
 
+-- the outcome of the parsed pattern, or its error
 abbrev pub outcome : Options → List ℕ → Result (List Token) GlobError → Outcome
 outcome o bytes (Ok ts) = outcome_of ((tests_of o ts).here bytes)
 outcome o bytes (Err e) = malformed e

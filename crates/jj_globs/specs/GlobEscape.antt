@@ -14,6 +14,7 @@ is_special b = (b == 63) || (b == 42) || (b == 91) || (b == 93) || (b == 123) ||
 abbrev pub escaped_byte : ℕ → List ℕ
 escaped_byte b = if is_special b then 91 ∷ b ∷ 93 ∷ [] else b ∷ []
 
+-- the string with each special byte in brackets
 unfoldable pub literal_glob : List ℕ → List ℕ
 literal_glob text = flat_map escaped_byte text
 

@@ -12,6 +12,9 @@ use Rattle.jj_globs.specs.GlobPrefix.{prefix_of_tokens}
 use Rattle.jj_globs.specs.declared.glob.bit_tables.BitTables.{BitTables}
 use Rattle.jj_globs.specs.GlobTables.{AreTablesOf, after_bytes}
 
+-- The parts of a compiled glob: the tokens of its string, their NFA, of fewer than 1,048,576
+-- states, the state where its literal suffix starts, its literal prefix, and the tables, if there
+-- are any.
 pub record IsCompiledGlob (text : List ℕ) (o : Options) (ts : List Token) (ss : List Step)
     (suffix_start : ℕ) (prefix : List ℕ) (tables : Option BitTables) : Type 0 where
   pub reads : tokens_of text ≡ Ok ts

@@ -28,12 +28,15 @@ same_byte o a b = if o.icase then lower a == lower b else a == b
 abbrev pub is_plain : Options → ℕ → Bool
 is_plain o b = not (o.separator && (b == 47))
 
+-- whether the byte is in the range
 abbrev pub in_range : ℕ → ByteRange → Bool
 in_range b r = nat_le r.first b && nat_le b r.last
 
+-- whether the byte is in one of the ranges
 abbrev pub any_range : ℕ → List ByteRange → Bool
 any_range b rs = list_any (in_range b) rs
 
+-- whether one of the ranges has the byte, or, if case is ignored, the letter in either case
 abbrev pub in_ranges : Options → List ByteRange → ℕ → Bool
 in_ranges o rs b =
     any_range b rs || (o.icase && (any_range (lower b) rs || any_range (upper b) rs))
@@ -91,12 +94,14 @@ abbrev pub before_open : Sequence → List (Alternatives × Sequence) → Readin
 before_open s [] = record { here = s; outer = [] }
 before_open s (g ∷ gs) = record { here = group (either s g.0) g.1; outer = gs }
 
+-- the state before this token, from the one after it
 abbrev pub before : Token → Reading → Reading
 before (part p) r = record { here = next p r.here; outer = r.outer }
 before Close r = record { here = done; outer = (no_more, r.here) ∷ r.outer }
 before Or r = before_or r.here r.outer
 before Open r = before_open r.here r.outer
 
+-- the syntax tree of the tokens, as the state before the first
 abbrev pub reading_of : List Token → Reading
 reading_of [] = record { here = done; outer = [] }
 reading_of (t ∷ ts) = before t (reading_of ts)

@@ -15,6 +15,7 @@ use Rattle.jj_globs.specs.GlobBacktracking.{Test, one, many, any_byte}
 abbrev pub HasBit : List ℕ → ℕ → Type 0
 HasBit words index = bit_at (get_or words (index / 64) 0) (index % 64) ≡ 1
 
+-- whether the bit at this index is set, of words of 64 bits
 abbrev pub has_bit : List ℕ → ℕ → Bool
 has_bit words index = bit_at (get_or words (index / 64) 0) (index % 64) == 1
 

@@ -33,9 +33,11 @@ leading_bytes (Close ∷ ts) = []
 abbrev pub prefix_of_tokens : Options → List Token → List ℕ
 prefix_of_tokens o ts = if o.icase then [] else leading_bytes ts
 
+-- the literal prefix of parsed tokens; empty after an error
 abbrev pub parsed_prefix : Options → Result (List Token) GlobError → List ℕ
 parsed_prefix o (Ok ts) = prefix_of_tokens o ts
 parsed_prefix o (Err error) = []
 
+-- the literal prefix of a glob; empty if its string is malformed
 unfoldable pub glob_prefix : GlobSpec → List ℕ
 glob_prefix g = parsed_prefix g.options (tokens_of g.text)

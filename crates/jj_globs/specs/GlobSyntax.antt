@@ -16,6 +16,7 @@ use Rattle.jj_globs.specs.declared.glob.error.GlobError.TheVariants.{UnclosedCla
 
 -- 1. The role of each byte in the syntax.
 
+-- the symbol of a byte in a glob
 abbrev pub symbol_of : ℕ → Symbol
 symbol_of b =
     if b == 63 then Question else

@@ -33,9 +33,11 @@ module _ {A : Type 0} where
   abbrev pub with_attribute : Members → String A × String A → Members
   with_attribute members e = put (string_bytes e.0) (string (string_bytes e.1)) members
 
+  -- the members of the object of attributes
   abbrev pub attribute_members : List (String A × String A) → Members
   attribute_members = fold with_attribute no_members
 
+  -- the object of attributes
   abbrev pub attributes_json : List (String A × String A) → Data
   attributes_json attributes = object (attribute_members attributes)
 
@@ -62,12 +64,14 @@ metadata_members m time =
     (member (codes "username") (string (string_bytes m.username))
     (member (codes "workspace_name") (workspace_json m.workspace_name) no_members))))))
 
+-- the JSON value is that of the metadata, with some strings for its times
 abbrev pub IsMetadataJson : OperationMetadata → Data → Type 0
 IsMetadataJson m value = (time : Data) × IsRangeJson time
     × (value ≡ object (metadata_members m time))
 
 -- ---- operations: the members of the metadata, and the parents
 
+-- the JSON value is that of the operation, with some strings for its times
 abbrev pub IsOperationJson : Operation → Data → Type 0
 IsOperationJson o value = (time : Data) × IsRangeJson time
     × (value ≡ object (put (codes "parents") (ids_json o.parents.items)

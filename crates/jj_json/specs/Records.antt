@@ -7,6 +7,7 @@ use Rattle.serde_json.specs.View.{items_of}
 use Rattle.jj_content.specs.Hex.{hex, reverse_hex}
 use Rattle.jj_backend.specs.Records.{SignatureValue, CommitValue}
 
+-- the JSON value is a string
 abbrev pub IsJsonString : Data → Type 0
 IsJsonString value = IsSome (as_str value)
 
@@ -21,6 +22,7 @@ signature_json s timestamp = object
     (member (codes "name") (string s.name)
     (member (codes "timestamp") timestamp no_members)))
 
+-- the JSON value is that of the signature, with some string for its time
 abbrev pub IsSignatureJson : SignatureValue → Data → Type 0
 IsSignatureJson s value = (timestamp : Data) × IsJsonString timestamp
     × (value ≡ signature_json s timestamp)

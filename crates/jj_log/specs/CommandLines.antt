@@ -56,14 +56,17 @@ after_awaited line Columns index word =
     Ok (record line { columns = Some index; awaited = Nothing })
 after_awaited line style index word = with_style line index (style_named word)
 
+-- the line after the word at this index
 abbrev pub after_word : CommandLine → ℕ → List ℕ → Result CommandLine UsageError
 after_word line = after_awaited line line.awaited
 
+-- the line if no value of an option is awaited, else the error that it is missing
 abbrev pub ended : CommandLine → Awaited → Result CommandLine UsageError
 ended line Nothing = Ok line
 ended line Columns = Err NoColumns
 ended line style = Err NoStyle
 
+-- the line at the end of the words, or the error that a value is missing
 abbrev pub complete : CommandLine → Result CommandLine UsageError
 complete line = ended line line.awaited
 
@@ -75,6 +78,7 @@ after_words (Ok line) index [] = complete line
 after_words (Ok line) index (word ∷ words) =
     after_words (after_word line index word) (index + 1) words
 
+-- the command line of these words, or its first error
 abbrev pub command_line : List (List ℕ) → Result CommandLine UsageError
 command_line words = after_words (Ok no_words) 0 words
 

@@ -7,12 +7,12 @@ use Rattle.jj_log.specs.declared.layout.Row.{Row}
 use Rattle.jj_log.specs.declared.style.Style.{Style}
 use Rattle.jj_log.specs.declared.style.Style.TheVariants.{Ascii}
 
--- the characters of a column
+-- the characters of a column in the line of a node
 abbrev pub node_cell : ℕ → Bool → ℕ → List ℕ
 node_cell column is_root i = if i == column then (if is_root then codes "* " else codes "o ")
     else codes "| "
 
--- those of the first columns, in a style
+-- the characters of the first columns in the line of a node, in a style
 abbrev pub node_cells : Style → ℕ → Bool → ℕ → List ℕ
 node_cells style column is_root zero = []
 node_cells style column is_root (suc n) =
@@ -28,7 +28,7 @@ abbrev pub styled_line_of_row : Style → Row → List ℕ → List ℕ
 styled_line_of_row style row label =
     node_line style row.width row.column (length row.edges.items == 0) label
 
--- that in ASCII characters
+-- the line of the node of a row, in ASCII characters
 abbrev pub line_of_row : Row → List ℕ → List ℕ
 line_of_row = styled_line_of_row Ascii
 
@@ -40,13 +40,14 @@ Appends old new = (more : List ℕ) × (new ≡ old ++ more)
 abbrev pub StartsWithLine : List ℕ → List ℕ → List ℕ → Type 0
 StartsWithLine old new line = (below : List ℕ) × (new ≡ old ++ line ++ below)
 
--- the rows one after the other: the line of the node of each, and further lines
+-- the drawing has the line of the node of each row, and below it any further lines
 abbrev pub AreStyled : Style → (ℕ → List ℕ) → List Row → List ℕ → Type 0
 AreStyled style label [] drawing = drawing ≡ []
 AreStyled style label (row ∷ rows) drawing = (below : List ℕ) × (later : List ℕ)
     × (drawing ≡ styled_line_of_row style row (label row.node) ++ below ++ later)
     × AreStyled style label rows later
 
--- those in ASCII characters
+-- the drawing, in ASCII characters, has the line of the node of each row, and below it any further
+-- lines
 abbrev pub AreDrawn : (ℕ → List ℕ) → List Row → List ℕ → Type 0
 AreDrawn = AreStyled Ascii

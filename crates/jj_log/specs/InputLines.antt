@@ -23,6 +23,7 @@ IsCutAt byte string before after = (string ≡ before ++ byte ∷ after) × Lack
 abbrev pub parts_of : ℕ → List ℕ → List (List ℕ)
 parts_of separator string = slice_split (λ b. b == separator) string
 
+-- whether the byte string has a byte
 abbrev pub is_nonempty : List ℕ → Bool
 is_nonempty string = not (length string == 0)
 

@@ -31,7 +31,7 @@ pub record IsStyledDrawing (style : Style) (most : ℕ) (commits : List Commit) 
   pub are_rows : AreLogRows most commits rows
   pub drawn : AreStyled style (label_of commits) rows drawing
 
--- that in ASCII characters
+-- the rows of the log of the commits were drawn in ASCII characters with the labels of the commits
 abbrev pub IsDrawing : (most : ℕ) → List Commit → List ℕ → Type 0
 IsDrawing = IsStyledDrawing Ascii
 

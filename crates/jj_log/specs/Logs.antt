@@ -13,6 +13,7 @@ use Rattle.jj_log.specs.declared.commits.NumberedCommit.{NumberedCommit}
 abbrev pub LogNode : Type 0
 LogNode = ℕ × List (GraphEdge ℕ)
 
+-- the numbers of the nodes
 abbrev pub numbers_of : List LogNode → List ℕ
 numbers_of nodes = map (λ node. node.0) nodes
 

@@ -9,8 +9,10 @@ use Rattle.jj_log.specs.declared.commits.NumberedCommit.{NumberedCommit}
 abbrev pub parents_of : List NumberedCommit → Graph
 parents_of commits n = option_map_or (λ c. c.parents.items) (slice_get commits n) []
 
+-- whether the number is that of an elided commit
 abbrev pub is_elided : List NumberedCommit → ℕ → Bool
 is_elided commits n = option_map_or (λ c. c.is_elided) (slice_get commits n) false
 
+-- whether the number is that of a commit that is not elided
 abbrev pub is_visible : List NumberedCommit → ℕ → Bool
 is_visible commits n = option_map_or (λ c. not c.is_elided) (slice_get commits n) false

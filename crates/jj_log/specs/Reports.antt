@@ -1,4 +1,4 @@
--- Messages of faults, and what standard error says of a run.
+-- Messages of faults, and the report of a run on standard error.
 -- Cited by contracts of public items: IsFaultAt, fault_text, report_text, status_of.
 use Rattle.std.specs.Prelude.{◌≡◌, ◌++◌, ℕ, [], List, Result, codes, string_bytes}
 use Rattle.std.specs.Fmt.{decimal}
@@ -11,6 +11,7 @@ use Rattle.jj_log.specs.declared.fault.Fault.TheVariants.{NotUtf8, Fields, Line}
 use Rattle.jj_log.specs.declared.fault.LineFault.{LineFault}
 use Rattle.jj_log.specs.declared.fault.LineFault.TheVariants.{CarriageReturn, MissingParents, BadName, RepeatedName, Cycle, TooWide}
 
+-- the message of a fault of one line
 abbrev pub line_fault_text : LineFault → List ℕ
 line_fault_text CarriageReturn =
     codes "ends in a carriage return; the input has CRLF lines"
@@ -20,6 +21,7 @@ line_fault_text RepeatedName = codes "repeated name"
 line_fault_text Cycle = codes "cycle of parents"
 line_fault_text TooWide = codes "more columns than --columns allows"
 
+-- the message of a fault of the input
 abbrev pub fault_text : Fault → List ℕ
 fault_text NotUtf8 = codes "input is not UTF-8"
 fault_text (Fields at) = codes "byte " ++ decimal at
@@ -42,5 +44,6 @@ IsFaultAt line kind string fault = ⊥
 abbrev pub report_text : Result (Unit {0}) (Failure Fault) → List ℕ
 report_text ended = report_line (codes "jj-log") (ended_text (λ _. []) fault_text ended)
 
+-- the exit status of a run: 0 if it ended, 1 after a fault or a failure
 abbrev pub status_of : Result (Unit {0}) (Failure Fault) → ℕ
 status_of = ended_status (λ _. 0) (λ _. 1)

@@ -60,6 +60,6 @@ abbrev pub DrawsGiven : LogOptions → List ℕ → List ℕ → Type 0
 DrawsGiven options input drawing = (lines : List ℕ) × AreLinesGiven options.nul input lines
     × DrawsInput options.style options.max_columns lines drawing
 
--- likewise; a run has no other outcome
+-- the drawing of the commits of an input with these options; a run has only one outcome
 abbrev pub DrawingsOf : LogOptions → List ℕ → List ℕ → Unit {0} → Type 0
 DrawingsOf options input drawing outcome = DrawsGiven options input drawing

@@ -16,6 +16,7 @@ unicode_glyph byte = if byte == 124 then 226 ∷ 148 ∷ 130 ∷ []
     else if byte == 42 then 226 ∷ 151 ∷ 134 ∷ []
     else 32 ∷ []
 
+-- the UTF-8 of the Unicode characters of a drawing, by its ASCII characters
 abbrev pub unicode_glyphs : List ℕ → List ℕ
 unicode_glyphs glyphs = flat_map unicode_glyph glyphs
 
@@ -51,5 +52,6 @@ pub data IsGlyph : ℕ → Type 0 where
   root : IsGlyph 42
   blank : IsGlyph 32
 
+-- a drawing in Unicode characters is read back as its ASCII characters
 abbrev pub IsReadBack : Type 0
 IsReadBack = (glyphs : List ℕ) → All IsGlyph glyphs → read_back (styled Unicode glyphs) ≡ glyphs

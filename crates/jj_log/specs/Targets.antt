@@ -28,7 +28,7 @@ pub record AddsVia (commits : List NumberedCommit) (parent : ℕ) (old new : Lis
   pub all : (t : ℕ) → Contains new t ↔ (Contains old t ⊎ IsVia commits t parent)
   pub once : IsDistinct eqb old → IsDistinct eqb new
 
--- those of these commits are known
+-- the targets of these commits are known
 abbrev pub KnowsTargets : List NumberedCommit → List (Vec ℕ Global) → (ℕ → Type 0) → Type 0
 KnowsTargets commits known Which = (n : ℕ) → Which n → n < length commits
     → AreTargets commits n (targets_at known n)

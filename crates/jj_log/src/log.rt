@@ -78,6 +78,7 @@ pub fn draw_styled_rows(
 
 /// Draws rows in ASCII characters, with the labels of these commits. Fails if memory runs out.
 pub fn draw_rows(alloc: Global, rows: &[Row], commits: &[Commit]) -> Result<String, AllocError>
+    // The drawing has the line of the node of each row, in order; lines below it are not stated.
     ensures { IfOk result (λ drawing.
         AreDrawn (label_of commits.now) rows.now (string_bytes drawing)) }
 {

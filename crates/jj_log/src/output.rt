@@ -8,7 +8,7 @@ use jj_files::file_util::{Sink, write_all};
 use std::alloc::Global;
 use std::io;
 
-// Bytes from which on the buffer is written.
+// The number of bytes with which the buffer is written.
 const FULL: usize = 65536;
 
 // Bytes of an output that are not written yet.

@@ -118,10 +118,10 @@ pub fn run<R: Source, W: Sink>(
     ensures ends { EndsBy (DrawingsOf options) (IsInputFault options)
         (streams (R.remaining reader.old) (W.contents writer.old))
         (streams (R.remaining reader.new) (W.contents writer.new)) result }
-    // The source has failed exactly if the failure says so.
+    // The source has failed exactly if the failure is a failed read.
     ensures read_failure { R.has_failed reader.old ≡ false
         → R.has_failed reader.new ≡ is_read_failure result }
-    // The sink has failed exactly if the failure says so.
+    // The sink has failed exactly if the failure is a failed write.
     ensures write_failure { W.has_failed writer.old ≡ false
         → W.has_failed writer.new ≡ is_write_failure result }
     // A failed write is one to a closed output exactly if the sink's error is a broken pipe.

@@ -32,6 +32,7 @@ visit_spec AllRecursively = all_recursively
 visit_spec (Specific dirs files) = specific (dir_names dirs) (file_names files)
 visit_spec Nothing = nothing
 
+-- whether there is a name
 abbrev pub has_names : List Name → Bool
 has_names [] = false
 has_names (name ∷ names) = true

@@ -21,7 +21,7 @@ YieldsAll {U} {S} {A} becomes steps source items = (it : S) × becomes source it
 abbrev pub IsFiniteFrom : {S : Type 0} → (S → Type 0) → (S → Count) → S → Type 0
 IsFiniteFrom can_next remaining state = can_next state × IsFinite (remaining state)
 
--- of each diff the value before, then the value after
+-- the terms of the diffs in order: of each the value before, then the value after
 abbrev pub diff_terms : {T : Type 0} → List (Diff T) → List T
 diff_terms [] = []
 diff_terms (d ∷ ds) = d.before ∷ d.after ∷ diff_terms ds

@@ -10,6 +10,7 @@ use Rattle.std.proofs.lemmas.Bool.{and_parts, and_from}
 use Rattle.jj_paths.specs.Tree.{Tree, Branches, none, branch}
 
 module _ {V : Type 0} (eq : V → V → Bool) where
+  -- equality of branches: the same names in order, with equal values and equal branches
   abbrev pub branches_eq : Branches V → Branches V → Bool
   branches_eq none none = true
   branches_eq none (branch name value below after) = false
@@ -18,6 +19,7 @@ module _ {V : Type 0} (eq : V → V → Bool) where
       bytes_eq name name' && (eq value value'
       && (branches_eq below below' && branches_eq after after'))
 
+  -- equality of trees: equal values and equal branches
   abbrev pub tree_eq : Tree V → Tree V → Bool
   tree_eq tree other = eq tree.value other.value && branches_eq tree.branches other.branches
 

@@ -11,6 +11,7 @@ use Rattle.jj_paths.specs.declared.repo_path.iter.RepoPathAncestors.{RepoPathAnc
 abbrev pub remaining_components : RepoPathComponentsIter → Path
 remaining_components left = path_of left.path
 
+-- the path and its ancestors; none of no path
 abbrev pub ancestors_from : Option RepoPath → List Path
 ancestors_from None = []
 ancestors_from (Some path) = ancestors (path_of path)

@@ -34,7 +34,8 @@ shape_named Merge word = option_map (λ form. form.0) (form_named (table MERGE_F
 shape_named Graph word = option_map (λ form. form.0) (form_named (table GRAPH_FORMS) word)
 shape_named Hash word = option_map (λ form. form.0) (form_named (table HASH_FORMS) word)
 
--- in pairs, globs are at even indices; in lists with a dash between them, that is no number
+-- whether the field at this index is a glob: in pairs one at an even index, in lists with a dash
+-- between them none
 abbrev pub is_glob_place : Option Shape → ℕ → Bool
 is_glob_place (Some Pairs) index = index % 2 == 0
 is_glob_place shape index = false
@@ -144,7 +145,7 @@ abbrev pub place_text : (number place : ℕ) → List ℕ
 place_text number place =
     codes "line " ++ decimal number ++ codes ", field " ++ decimal (place + 1) ++ codes ", "
 
--- that of a fault of the line with this number and these fields
+-- the message of a fault of the line with this number and these fields
 abbrev pub fields_message : Command → ℕ → LineFault → (line : List ℕ) → List (List ℕ) → List ℕ
 fields_message command number kind line fields =
     place_text number (place_of command kind fields)

@@ -9,6 +9,7 @@ use Rattle.jj_backend.specs.declared.signing.SignError.{SignError}
 use Rattle.jj_backend.specs.declared.signing.SignError.TheVariants.{InvalidSignatureFormat, Backend, Memory}
 use Rattle.jj_stores.specs.Verdict.{Verdict, is_unknown, unknown_verdict}
 
+-- a verdict, or the error of a signing backend
 abbrev pub VerifyResult : Type 0
 VerifyResult = Result Verdict SignError
 

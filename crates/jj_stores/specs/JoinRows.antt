@@ -14,6 +14,7 @@ use Rattle.std.specs.BTreeMap.{BTreeMap}
 use Rattle.std.specs.Fn.{CalledAt}
 use denote.Param.Members.{Mut}
 
+-- the bytes of a name, and the remote ref
 abbrev pub ref_of : {K : Type 0} → Name K × Bor RemoteRef → List ℕ × RemoteRef
 ref_of r = (name_bytes r.0, r.1.now)
 

@@ -32,21 +32,27 @@ tracked_target remote = tracked_of remote.state remote.target
 
 -- ---- content
 
+-- the target is a valid one: a merge of ids or absent terms
 abbrev pub IsTarget : Target → Type 0
 IsTarget = IsMergeOf (IsOptionOf AreBytes)
 
+-- the content of a target: the list of its terms
 abbrev pub target_content : Target → List ℕ
 target_content = list_content (option_content bytes_content)
 
+-- the number of a state in its content
 abbrev pub state_number : RemoteRefState → ℕ
 state_number New = 0
 state_number Tracked = 1
 
+-- the content of a state: its number in four bytes
 abbrev pub state_content : RemoteRefState → List ℕ
 state_content state = u32_content (state_number state)
 
+-- the remote ref is a valid one
 abbrev pub IsRemoteRef : RemoteRef → Type 0
 IsRemoteRef remote = IsTarget remote.target × Unit {0}
 
+-- the content of a remote ref: its target, then its state
 abbrev pub remote_ref_content : RemoteRef → List ℕ
 remote_ref_content remote = target_content remote.target ++ state_content remote.state

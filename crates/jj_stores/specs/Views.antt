@@ -16,36 +16,43 @@ use Rattle.jj_stores.specs.declared.op_store.view.View.{View}
 
 -- association lists from names, whose keys ascend strictly
 module _ {V : Type 0} where
+  -- the entries of a map by names, which strictly ascend, are valid
   abbrev pub AreNamed : (V → Type 0) → List (List ℕ × V) → Type 0
   AreNamed is_value entries = IsStrictlySortedBy (slice_cmp nat_cmp) (keys_of entries)
       × AreValues (λ e. IsText e.0 × is_value e.1) entries
 
+  -- the content of a map by names: the list of its entries
   abbrev pub named_content : (V → List ℕ) → List (List ℕ × V) → List ℕ
   named_content value = list_content (entry_content string_content value)
 
 -- ---- remote views
 
+-- the bookmarks and tags of a remote are valid
 abbrev pub IsRemoteView : RemoteView → Type 0
 IsRemoteView view = AreNamed IsRemoteRef view.bookmarks.entries
     × AreNamed IsRemoteRef view.tags.entries
 
+-- the content of a remote's refs: its bookmarks, then its tags
 abbrev pub remote_view_content : RemoteView → List ℕ
 remote_view_content view = named_content remote_ref_content view.bookmarks.entries
     ++ named_content remote_ref_content view.tags.entries
 
 -- ---- views: heads and local refs; remote and Git refs; Git heads and working-copy commits
 
+-- the heads and the local bookmarks and tags of the view are valid
 abbrev pub IsLocal : View → Type 0
 IsLocal view =
     (set.IsUnique bytes_eq view.head_ids × AreValues AreBytes view.head_ids.keys)
     × (AreNamed IsTarget view.local_bookmarks.entries × AreNamed IsTarget view.local_tags.entries)
 
+-- the content of the heads and the local bookmarks and tags of a view
 abbrev pub local_content : View → List ℕ
 local_content view =
     set_content (slice_cmp nat_cmp) bytes_content view.head_ids.keys
     ++ (named_content target_content view.local_bookmarks.entries
     ++ named_content target_content view.local_tags.entries)
 
+-- the view is a valid one
 abbrev pub IsView : View → Type 0
 IsView view = IsLocal view
     × ((AreNamed IsRemoteView view.remote_views.entries × AreNamed IsTarget view.git_refs.entries)

@@ -30,6 +30,7 @@ kind_named name =
 abbrev pub bytes_config : Config
 bytes_config = record default_config { utf8 = false }
 
+-- the configuration of a regular expression over bytes that ignores case
 abbrev pub bytes_config_i : Config
 bytes_config_i = record bytes_config {
   flags = record bytes_config.flags

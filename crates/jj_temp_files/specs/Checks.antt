@@ -25,6 +25,7 @@ permissions_of status = bit_and status.mode 0o7777
 abbrev pub StatRelation : Type 0 → Type 0 → Type 1
 StatRelation S F = S → F → Result FileStatus Error → Type 0
 
+-- which results and states a call that sets the mode of a file may return and leave
 abbrev pub SetModeRelation : Type 0 → Type 0 → Type 1
 SetModeRelation S F = S → F → ℕ → Result (Unit {0}) Error → S → Type 0
 

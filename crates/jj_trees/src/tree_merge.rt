@@ -270,8 +270,8 @@ pub fn merge_trees_within<B: Backend>(
     ensures read { OnOk result (AreRead (B.objects backend.now).trees
         ⟦<Option<TreeValue> as PartialEq>⟧.eq same_change (B.may_read_tree backend.now)
         (root_values trees.now) (non_zero_usize_get levels)) }
-    // An error but `Memory` is that of a failed read of such a tree, `ObjectNotFound` only if it is
-    // missing, or `Unsupported` below `levels`.
+    // An error but `Memory` is that of a failed read of a tree that the merge steps into,
+    // `ObjectNotFound` only if the tree is missing, or `Unsupported` below `levels`.
     ensures error { IfErr result (IsMergeError (B.objects backend.now).trees
         ⟦<Option<TreeValue> as PartialEq>⟧.eq same_change (B.may_read_tree backend.now)
         (B.may_fail backend.now) (root_values trees.now) (non_zero_usize_get levels)) }
@@ -327,8 +327,8 @@ pub fn merge_trees<B: Backend>(
     ensures read { OnOk result (AreRead (B.objects backend.now).trees
         ⟦<Option<TreeValue> as PartialEq>⟧.eq same_change (B.may_read_tree backend.now)
         (root_values trees.now) 1024) }
-    // An error but `Memory` is that of a failed read of such a tree, `ObjectNotFound` only if it is
-    // missing, or `Unsupported` at the greatest depth.
+    // An error but `Memory` is that of a failed read of a tree that the merge steps into,
+    // `ObjectNotFound` only if the tree is missing, or `Unsupported` below 1,024 levels.
     ensures error { IfErr result (IsMergeError (B.objects backend.now).trees
         ⟦<Option<TreeValue> as PartialEq>⟧.eq same_change (B.may_read_tree backend.now)
         (B.may_fail backend.now) (root_values trees.now) 1024) }

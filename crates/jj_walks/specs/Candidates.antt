@@ -16,6 +16,7 @@ abbrev pub is_zero : Option ℕ → Bool
 is_zero None = false
 is_zero (Some n) = n == 0
 
+-- whether there is a count, and it is not 0
 abbrev pub is_positive : Option ℕ → Bool
 is_positive None = false
 is_positive (Some n) = not (n == 0)

@@ -20,8 +20,8 @@ pub record IsChunkOfMany (g : Graph) (starts chunk left : List ℕ) : Type 0 whe
   pub has_starts : (a : ℕ) → Contains starts a → Contains chunk a
   pub few : length left ≤ 1
 
--- of no start the chunk is empty, of one it is that node, whose neighbors are left; of several it
--- is as above
+-- of no start the chunk is empty; of one it is that node, whose neighbors are left; of several it
+-- has them all, and at most one node is left
 pub record IsNextChunk (g : Graph) (starts chunk left : List ℕ) : Type 0 where
   pub is_chunk : IsChunk g starts chunk left
   pub of_none : starts ≡ [] → (chunk ≡ []) × (left ≡ [])

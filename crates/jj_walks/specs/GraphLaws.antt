@@ -160,6 +160,7 @@ module _ {T ID E F N U S : Type 0} (ids : Shared F (Bor T × Unit {0}) (Result I
     (lists : Mut N (Bor T × Unit {0}) U) (eq : ID → ID → Bool) (becomes : U → S → Type 0)
     (steps : S → Option T → S → Type 0) (can : S → Type 0) (left : S → Count)
     (graph : ClosureGraph T ID E) (start : Listing T E) where
+  -- `dfs`: a complete run yields a depth-first preorder of the nodes that the starts reach
   abbrev pub YieldsPreorder : DepthFirst T ID F N → List T → Type 0
   YieldsPreorder it yielded =
       InEachModel graph start (λ g starts. IsLeftOf ids lists g eq becomes steps starts [] it)
@@ -172,6 +173,8 @@ module _ {T ID E F N U S II I : Type 0}
     (eq : ID → ID → Bool) (becomes : U → S → Type 0) (steps : S → Option (Result T E) → S → Type 0)
     (can : S → Type 0) (left : S → Count) (first : into.Ghosts II (Result T E) I)
     (first_items : iter.Ghosts I (Result T E)) (id_fn : F) (neighbors_fn : N) (start : II) where
+  -- `dfs_ok`: a complete run without an error yields a depth-first preorder of the nodes that the
+  -- starts reach
   abbrev pub YieldsOkPreorder : DepthFirstOk T ID E F N → List T → Type 0
   YieldsOkPreorder it yielded =
       StartsWalk ids lists eq becomes steps first first_items id_fn neighbors_fn start it
@@ -188,6 +191,8 @@ module _ {T ID E F N C U J : Type 0} (eq : ID → ID → Bool)
     (value : into.Ghosts U (Result T E) J) (items : iter.Ghosts J (Result T E))
     (cycles : Mut C (T × Unit {0}) E) (start : Listing T E) (id_fn : F) (neighbors_fn : N)
     (cycle_fn : C) where
+  -- `topo_order_reverse_lazy`: a complete run without an error yields a topological order of the
+  -- nodes that the starts reach, and these reach no cycle
   abbrev pub YieldsTopologicalOrder : TopoOrderReverseLazy T ID E F N C → List T → Type 0
   YieldsTopologicalOrder it yielded =
       StartsOrder eq ids lists value items cycles start id_fn neighbors_fn cycle_fn it

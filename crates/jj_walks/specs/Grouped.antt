@@ -13,6 +13,7 @@ pub record Entry (N ID : Type 0) : Type 0 where
   pub node : N
   pub edges : List (GraphEdge ID)
 
+-- an id was prioritized, or a node was read or yielded
 pub data Event (N ID : Type 0) : Type 0 where
   Prioritized : ID → Event N ID
   Read : Entry N ID → Event N ID
@@ -22,6 +23,7 @@ pub data Event (N ID : Type 0) : Type 0 where
 abbrev pub History : Type 0 → Type 0 → Type 0
 History N ID = List (Event N ID)
 
+-- whether the target of an edge of this type is not missing
 abbrev pub is_in_graph : GraphEdgeType → Bool
 is_in_graph Missing = false
 is_in_graph Direct = true
@@ -42,13 +44,14 @@ last_edges (Yielded e ∷ h) = e.edges
 abbrev pub leads_to : {ID : Type 0} → (ID → ID → Bool) → ID → GraphEdge ID → Bool
 leads_to eq i edge = is_in_graph edge.edge_type && eq edge.target i
 
--- the nodes that were read, and those that were yielded, the newest first
+-- the nodes that were read, the newest first
 abbrev pub read_nodes : {N ID : Type 0} → History N ID → List (Entry N ID)
 read_nodes [] = []
 read_nodes (Prioritized i ∷ h) = read_nodes h
 read_nodes (Read e ∷ h) = e ∷ read_nodes h
 read_nodes (Yielded e ∷ h) = read_nodes h
 
+-- the nodes that were yielded, the newest first
 abbrev pub yielded_nodes : {N ID : Type 0} → History N ID → List (Entry N ID)
 yielded_nodes [] = []
 yielded_nodes (Prioritized i ∷ h) = yielded_nodes h
@@ -63,14 +66,14 @@ first_prioritized (Prioritized i ∷ event ∷ h) = first_prioritized (event ∷
 first_prioritized (Read e ∷ h) = first_prioritized h
 first_prioritized (Yielded e ∷ h) = first_prioritized h
 
--- a walk of that many of these edges
+-- there is a walk of this many edges between the ids
 abbrev pub IsIdWalkOfLength : {ID : Type 0} → (eq edge : ID → ID → Bool) → (from to : ID) → ℕ
     → Type 0
 IsIdWalkOfLength eq edge from to zero = eq from to ≡ true
 IsIdWalkOfLength {ID} eq edge from to (suc steps) = (i : ID) × (edge from i ≡ true)
     × IsIdWalkOfLength eq edge i to steps
 
--- by zero or more of them
+-- one id reaches the other by zero or more edges
 abbrev pub ReachesId : {ID : Type 0} → (eq edge : ID → ID → Bool) → (from to : ID) → Type 0
 ReachesId eq edge from to = (steps : ℕ) × IsIdWalkOfLength eq edge from to steps
 
@@ -79,7 +82,8 @@ module _ {N ID : Type 0} (eq : ID → ID → Bool) where
   abbrev pub has_edge : List (Entry N ID) → ID → ID → Bool
   has_edge nodes i j = list_any (λ e. eq e.id i && list_any (leads_to eq j) e.edges) nodes
 
-  -- of nodes that were read, the newest first: none has an edge to itself or to one read before
+  -- of nodes that were read, the newest first: none has an edge to itself or to one that was read
+  -- before it
   abbrev pub AreReadChildFirst : List (Entry N ID) → Type 0
   AreReadChildFirst [] = ⊤
   AreReadChildFirst (e ∷ older) =
@@ -93,7 +97,7 @@ module _ {N ID : Type 0} (eq : ID → ID → Bool) where
   pending_nodes (Read e ∷ h) = e ∷ pending_nodes h
   pending_nodes (Yielded e ∷ h) = filter (λ f. not (eq e.id f.id)) (pending_nodes h)
 
-  -- the one of this id
+  -- the pending node with this id
   abbrev pub pending_at : History N ID → ID → Option (Entry N ID)
   pending_at h i = find (λ e. eq e.id i) (pending_nodes h)
 
@@ -105,6 +109,7 @@ module _ {N ID : Type 0} (eq : ID → ID → Bool) where
   is_required (Read e ∷ h) i = list_any (leads_to eq i) e.edges || is_required h i
   is_required (Yielded e ∷ h) i = not (eq e.id i) && is_required h i
 
+  -- whether the id is required, or a node with it is pending
   abbrev pub is_known : History N ID → ID → Bool
   is_known h i = is_required h i || is_some (pending_at h i)
 

@@ -62,6 +62,7 @@ module _ {N ID : Type 0} (eq : ID → ID → Bool) where
         (find (is_ready nodes yielded) (reverse (targets_of (newest_edges yielded)))) ⊤
         (λ i. eq i e.id ≡ true)
 
+  -- each node may follow those that were yielded before it
   abbrev pub AreGrouped : (nodes yielded : List (Entry N ID)) → Type 0
   AreGrouped nodes [] = ⊤
   AreGrouped nodes (e ∷ older) = MayFollow nodes older e × AreGrouped nodes older

@@ -5,6 +5,7 @@ use Rattle.std.specs.HashMap.{HashMap, get}
 use Rattle.std.specs.Global.{Global}
 use Rattle.std.specs.declared.vec.Vec.{Vec}
 
+-- the items of a list; none if there is no list
 abbrev pub items_of : {V : Type 0} → Option (Vec V Global) → List V
 items_of None = []
 items_of (Some listed) = listed.items

@@ -19,6 +19,7 @@ module _ {N ID : Type 0} where
   abbrev pub item_of : Entry N ID → N × List (GraphEdge ID)
   item_of e = (e.node, e.edges)
 
+  -- a node with its edges, as a list
   abbrev pub listed_item : N × Vec (GraphEdge ID) Global → N × List (GraphEdge ID)
   listed_item x = (x.0, x.1.items)
 
@@ -34,6 +35,7 @@ module _ {N ID : Type 0} where
       pub listed : (i : ID) → is_zero (count i) ≡ true → is_listed eq candidates heads i ≡ true
       pub follows : AreToFollow eq count (targets_of (last_edges h)) candidates
 
+    -- s represents this history
     pub record Keeps (h : History N ID) (s : PendingNodes N ID) : Type 0 where
       pub history : KeepsHistory h (λ i. option_map listed_item (get eq s.nodes i))
           (get eq s.counts) s.candidates.ids.items (deque_items s.candidates.heads)

@@ -151,8 +151,10 @@ where
     NI: IntoIterator<Item = Result<T, E>, IntoIter: Drop>,
     F: Fn(&T) -> Result<ID, AllocError> + Drop,
     N: FnMut(&T) -> NI + Drop,
+    // The closures may be called for any node, and return lists that end.
     requires graph { (graph_of_items ID.eq F.Fn N.FnMut NI.IntoIterator NI.IntoIter.Iterator
         id_fn neighbors_fn).walkable }
+    // The list of starts ends.
     requires start { (list_of_items II.IntoIterator II.IntoIter.Iterator start).finite }
     // The closures of the iterator may be called, and return finite lists.
     ensures can_walk { IfOk result (λ it. IsWalkable F.Fn N.FnMut (IsFiniteIterable

@@ -223,6 +223,10 @@ pub fn grouped_graphs_yield_grouped_orders<N, ID: Hash + Eq, E, S, F>()
 where
     S: Iterator<Item = Result<GraphNode<N, ID>, E>>,
     F: Fn(&N) -> &ID,
+    // If the input is in topological order, a complete run without an error yields a grouped order
+    // of its nodes.
     ensures order { YieldsGroupedOrders F.Fn ID.eq S.next_gives }
+    // A run fails only with an error of the input, at an id that comes twice, if the input is in no
+    // topological order or lacks a node that was prioritized, or out of memory.
     ensures error { FailsForCause F.Fn ID.eq S.next_gives }
 {}

@@ -36,8 +36,10 @@ where
     F: Fn(&T) -> Result<ID, AllocError> + Drop,
     N: FnMut(&T) -> NI + Drop,
     C: FnOnce(T) -> E + Drop,
+    // The closures may be called for any node, and return lists that end.
     requires graph { (graph_of_items ID.eq F.Fn N.FnMut NI.IntoIterator NI.IntoIter.Iterator id_fn
         neighbors_fn).walkable }
+    // `cycle_fn` may be called with any node.
     requires cycle_fn { C.IsAlwaysCallable cycle_fn }
     // In each graph that the closures implement, the chunk is in topological order if no cycle is
     // reachable, and the nodes reachable from the old starts are the chunk and those reachable from
@@ -55,6 +57,7 @@ where
         ⊎ IsMadeBesideCycle (C.post cycle_fn)
         (graph_of_items ID.eq F.Fn N.FnMut NI.IntoIterator NI.IntoIter.Iterator id_fn neighbors_fn)
         (list_of_nodes start.old.items) e) }
+    // After an error no start is left.
     ensures ended { OnErr result (start.new.items ≡ []) }
 {
     let mut graph = Closures {

@@ -54,12 +54,18 @@ fn ranges_within(
 /// Returns the hunks of a comparison by words: lines are compared first, each input with the first,
 /// and then the words of hunks that differ.
 pub fn diff<'a>(alloc: Global, inputs: &[&'a [u8]]) -> Result<Vec<DiffHunk<'a>>, AllocError>
+    // The hunks' parts of an input join to it, kinds alternate, matching parts are equal, no hunk
+    // is empty in all inputs, and none starts or ends within a word.
     ensures diff { IfOk result (λ hunks. IsDiff is_word_end (bytes_of inputs.now) hunks.items) }
     // Hunks of a comparison by lines are refined: what matches there matches here.
     ensures refined { IfOk result (λ hunks. IsRefinedLines (bytes_of inputs.now) hunks.items) }
+    // The lines that all inputs start with match, and of the other lines those that all end with.
     ensures ends { IfOk result
         (λ hunks. MatchesEnds is_line_end (bytes_of inputs.now) hunks.items) }
+    // No hunk that differs starts or ends with a token that is equal in all inputs; one of at most
+    // 64 tokens an input has no token that occurs once in each part.
     ensures trimmed { IfOk result (λ hunks. AreTrimmed is_word_end hunks.items) }
+    // Equal inputs have no hunk that differs.
     ensures identity { IfOk result
         (λ hunks. AreEqual (bytes_of inputs.now) → AllMatch hunks.items) }
 {

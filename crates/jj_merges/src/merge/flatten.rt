@@ -15,7 +15,9 @@ impl<T: Drop> Merge<Merge<T>> {
     ///
     /// Signed counts are the added merges' minus the removed merges' (`counts`).
     pub fn flatten(self, alloc: Global) -> Result<Merge<T>, AllocError>
+        // The terms are those of all merges in order, those of removed merges inverted.
         ensures terms { IfOk result (λ m. m ≡ flattened_terms self) }
+        // The signed count of each value is the added merges' minus the removed merges'.
         ensures counts { IfOk result (λ m. (eq : T → T → Bool) (v : T)
             → signed_count eq m v ≡ nested_count eq self v) }
     {

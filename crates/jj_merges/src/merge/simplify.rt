@@ -18,6 +18,7 @@ impl<T: PartialEq + Clone> Merge<T> {
     /// takes the cancelled add's index, so that the remaining diffs stay aligned. Simplifying twice
     /// changes nothing (`laws::simplified_indices_laws`). O(n²) comparisons.
     pub fn simplify(&self, alloc: Global) -> Result<Self, AllocError>
+        // A clone equals its original.
         requires clones { (x y : T) → T.is_clone x y → IsTrue (T.eq x y) }
         // The result has clones of the terms that remain, in order.
         ensures terms { IfOk result (λ s. AllZip T.is_clone
@@ -26,11 +27,11 @@ impl<T: PartialEq + Clone> Merge<T> {
         ensures counts { IfOk result (λ s. HaveSameCounts T.eq s self.now) }
         // No value is both added and removed.
         ensures disjoint { IfOk result (IsDisjoint T.eq) }
-
-        // The result is the shortest merge with these counts. Another merge with these counts that
-        // is disjoint has the same adds and removes up to order.
+        // If equality is an equivalence, no merge with these counts is shorter.
         ensures minimal { IfOk result (λ s. IsEquivalence T.eq → (n : List T)
             → HaveSameCounts T.eq self.now n → length s ≤ length n) }
+        // If equality is an equivalence, each merge with these counts in which no value is both
+        // added and removed has these adds and removes up to order.
         ensures unique { IfOk result (λ s. IsEquivalence T.eq → (n : List T)
             → HaveSameCounts T.eq self.now n → IsDisjoint T.eq n → HaveSameSides T.eq s n) }
     {
