@@ -1,7 +1,7 @@
 -- The first and the last hunk of a comparison.
 use Rattle.std.proofs.Common.{◌≡◌, ℕ, ◌+◌, ◌-◌, ◌<◌, ◌≤◌, List, [], ◌∷◌, ◌++◌, length, take, drop, get_or, Bor, refl, ap, sym, ◌∙◌, subst, arith, below_more, replicate, inl, inr, length-drop, length-append}
 use Rattle.std.proofs.lemmas.Bool.{cases_lt}
-use Rattle.std.proofs.lemmas.List.{take_all}
+use Rattle.std.proofs.lemmas.List.{drop_all, take_all}
 use Rattle.std.proofs.lemmas.List.Elements.{All-nil}
 use Rattle.std.proofs.lemmas.Grind.{common_steps, elements}
 use Rattle.std.specs.List.{slice_range}
@@ -122,6 +122,9 @@ module _ (form : List ℕ → List ℕ) (t : TokenEnds) (inputs : List (List ℕ
       → IsDiffBy form t inputs hs
   whole_at hs ends to before = prefix_whole form t inputs hs ends (λ i lt. omega (arith, to.limits i lt)) before
 
+drop_none : (xs : List ℕ) → suffix 0 xs ≡ []
+drop_none xs = drop_all (length xs - 0) xs (omega arith)
+
 pub limit_cuts : (t : TokenEnds) (inputs : List (List ℕ)) (start n : ℕ) (limits : List ℕ) → IsCommonEnd t inputs start n
     → AreLimits inputs n limits → AreCuts t inputs limits
 limit_cuts t inputs start n limits common from i lt = subst (IsCut t (get_or inputs i [])) (sym (from.limits i lt)) (common.cuts i lt)
@@ -132,6 +135,18 @@ common_end_zero t inputs start n common = record {
   within = λ i lt. omega (arith, common.within i lt);
   equal = common.equal;
   cuts = common.cuts;
+}
+
+-- nothing is at the end of all inputs
+pub empty_end : (t : TokenEnds) → IsTokenizer t → (inputs : List (List ℕ)) (start : ℕ) → IsCommonStart t inputs start
+    → IsCommonEnd t inputs start 0
+empty_end t law inputs start common = record {
+  some = common.some;
+  within = λ i lt. omega (arith, common.within i lt);
+  equal = λ i lt. drop_none (get_or inputs i []) ∙ sym (drop_none (get_or inputs 0 []));
+  cuts = λ i lt.
+      let e : length (get_or inputs i []) ≡ length (get_or inputs i []) - 0 = omega arith in
+      subst (IsCut t (get_or inputs i [])) e (law.whole (get_or inputs i []));
 }
 
 pub start_within : (t : TokenEnds) (inputs : List (List ℕ)) (n : ℕ) → IsCommonStart t inputs n → IsWithin inputs n

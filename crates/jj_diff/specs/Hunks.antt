@@ -1,6 +1,6 @@
 -- Hunks of a comparison.
 -- Cited by contracts of public items: AllMatch, AreTrimmed, IsDiff, IsDiffBy, MatchesEnds,
--- hunk_ranges.
+-- hunk_ranges, matched_start.
 use Rattle.std.specs.Prelude.{◌≡◌, ◌≢◌, ℕ, ◌+◌, ◌-◌, ◌<◌, ◌≤◌, List, [], ◌∷◌, length, map, take, All, slice_index}
 use Rattle.std.specs.List.{slice_index_or, slice_range}
 use Rattle.std.specs.declared.ops.Range.{Range}

@@ -26,7 +26,8 @@ pub use compare::{
 };
 pub use content_diff::{ContentDiff, DiffHunkIterator, diff};
 pub use hunks::{
-    DiffHunk, DiffHunkKind, MatchedRegion, compared_hunks, hunks_of_regions, single_hunk,
+    DiffHunk, DiffHunkKind, MatchedRegion, compared_hunks, hunks_from_start, hunks_of_regions,
+    single_hunk,
 };
 pub use ranges::{find_line_ranges, find_nonword_ranges, find_word_ranges};
 pub use regions::{find_compared_regions, find_regions};

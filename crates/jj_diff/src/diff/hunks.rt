@@ -296,6 +296,38 @@ fn region_hunks<'a, T: Tokenizer, C: CompareBytes>(
     Ok(hunks)
 }
 
+// Returns the hunks of unequal inputs. Tokens at the end match as the regions say.
+#[tactic(auto, using(crate::proofs::HunkEnds::whole_steps))]
+fn started_hunks<'a, T: Tokenizer, C: CompareBytes>(
+    alloc: Global,
+    tokenizer: &T,
+    compare: &C,
+    inputs: &[&'a [u8]],
+    regions: &[MatchedRegion],
+) -> Result<Vec<DiffHunk<'a>>, AllocError>
+    requires { 0 < length inputs.now }
+    ensures diff { IfOk result
+        (λ hunks. IsDiffBy C.canonical (T.is_end tokenizer.now) (bytes_of inputs.now) hunks.items) }
+    ensures start { IfOk result (λ hunks. (n : ℕ)
+        → IsCommonStart (T.is_end tokenizer.now) (bytes_of inputs.now) n
+        → n ≤ matched_start hunks.items) }
+    ensures trimmed { IfOk result (λ hunks. AreTrimmed (T.is_end tokenizer.now) hunks.items) }
+{
+    let start = common_start(tokenizer, inputs);
+    let mut progress = progress_from(alloc, tokenizer, inputs, start)?;
+    push_regions(alloc, tokenizer, compare, inputs, &mut progress, regions, 0)?;
+    let mut hunks = progress.hunks;
+    push_matching::<T, C>(
+        alloc,
+        tokenizer,
+        &mut hunks,
+        inputs,
+        &progress.from,
+        &progress.at,
+    )?;
+    Ok(hunks)
+}
+
 /// Returns the hunks of the inputs whose matching ones are the tokens that all inputs start with,
 /// the regions, in order, and the tokens that all inputs end with, each as far as the tokens before
 /// and after it are equal in all inputs. Of a region that overlaps what matches before it or the
@@ -384,4 +416,36 @@ pub fn hunks_of_regions<'a, T: Tokenizer>(
         (λ hunks. AreEqual (bytes_of inputs.now) → AllMatch hunks.items) }
 {
     compared_hunks(alloc, tokenizer, &CompareBytesExactly, inputs, regions)
+}
+
+/// Returns the hunks of the inputs as `hunks_of_regions` does, but equal tokens at the end match as
+/// the regions say. So an inserted token follows its equals, as in Git.
+#[tactic(auto, using(crate::proofs::HunkEnds::compared_steps))]
+pub fn hunks_from_start<'a, T: Tokenizer>(
+    alloc: Global,
+    tokenizer: &T,
+    inputs: &[&'a [u8]],
+    regions: &[MatchedRegion],
+) -> Result<Vec<DiffHunk<'a>>, AllocError>
+    // The hunks' parts of an input join to it, kinds alternate, matching parts are equal, no hunk
+    // is empty in all inputs, and none starts or ends within a token.
+    ensures diff { IfOk result
+        (λ hunks. IsDiff (T.is_end tokenizer.now) (bytes_of inputs.now) hunks.items) }
+    // The tokens that all inputs start with match.
+    ensures start { IfOk result (λ hunks. (n : ℕ)
+        → IsCommonStart (T.is_end tokenizer.now) (bytes_of inputs.now) n
+        → n ≤ matched_start hunks.items) }
+    // No hunk that differs starts or ends with a token that is equal in all inputs; one of at most
+    // 64 tokens an input has no token that occurs once in each part.
+    ensures trimmed { IfOk result (λ hunks. AreTrimmed (T.is_end tokenizer.now) hunks.items) }
+    // Equal inputs have no hunk that differs.
+    ensures identity { IfOk result
+        (λ hunks. AreEqual (bytes_of inputs.now) → AllMatch hunks.items) }
+{
+    if are_equal(&CompareBytesExactly, inputs) {
+        let hunks = equal_hunks::<T, CompareBytesExactly>(alloc, tokenizer, inputs)?;
+        return Ok(hunks);
+    }
+    let hunks = started_hunks(alloc, tokenizer, &CompareBytesExactly, inputs, regions)?;
+    Ok(hunks)
 }
