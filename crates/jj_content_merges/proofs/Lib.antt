@@ -5,4 +5,5 @@ pub mod Resolving
 pub mod MeasureLaws
 pub mod SideLaws
 pub mod Changes
+pub mod Comparing
 pub mod Results

@@ -18,6 +18,7 @@ use Rattle.jj_content_merges.specs.declared.files.hunks.MergeHunk.{MergeHunk}
 use Rattle.jj_content_merges.specs.declared.files.FileMergeHunkLevel.{FileMergeHunkLevel}
 use Rattle.jj_content_merges.specs.Hunks.{all_resolved, merged_side}
 use Rattle.jj_content_merges.specs.Rows.{parts_of, rows_of}
+use Rattle.jj_content_merges.specs.Comparisons.{AreTight, IsTightSplit}
 use Rattle.jj_content_merges.specs.Files.{terms_of, IsSplit, Outcomes, IsTokenMerge, IsWordMerge, IsHunk, IsContentMerge}
 
 abbrev pub Text : Type 0
@@ -107,10 +108,10 @@ token_merge is_end same inputs rows ms split outcomes =
 
 pub content_merge : (level : FileMergeHunkLevel) (same : SameChange) (inputs : List (List ℕ))
     (rows : List (Vec Text Global)) (ms : List MergeHunk) → IsSplit is_line_end inputs (rows_of rows)
-    → AllZip (IsHunk level same) (rows_of rows) (map terms_of ms)
+    → AllZip (IsHunk level same) (rows_of rows) (map terms_of ms) → IsTightSplit same inputs (rows_of rows)
     → IsContentMerge level same inputs (map terms_of ms)
-content_merge level same inputs rows ms split outcomes =
-    record { rows = rows_of rows; split = split; outcomes = outcomes }
+content_merge level same inputs rows ms split outcomes tight =
+    record { rows = rows_of rows; split = split; outcomes = outcomes; tight = tight }
 
 -- rows of an odd number of inputs are odd
 pub odd_parts : (is_end : TokenEnds) (inputs : List (List ℕ)) (rows : List (Vec Text Global))
@@ -128,6 +129,45 @@ resolves_unique Keep m v w r q =
     (bytes_eq-Decides v w).0 (r.1 w (λ e. one_not_zero (sym q.0 ∙ e)))
 resolves_unique Accept m v w r q = (bytes_eq-Decides v w).0 (r.1 w q.0)
 
+one_tight : (same : SameChange) (l b r v : List ℕ) → ResolvesTo bytes_eq same (l ∷ b ∷ r ∷ []) v
+    → AreTight same l b r ((l ∷ b ∷ r ∷ []) ∷ [])
+one_tight same l b r v resolved zero lt = inl (v, resolved)
+one_tight same l b r v resolved (suc n) lt = absurd (omega (arith, lt))
+
+whole_tight : (same : SameChange) (inputs : List (List ℕ)) (v : List ℕ) → ResolvesTo bytes_eq same inputs v
+    → IsTightSplit same inputs (inputs ∷ [])
+whole_tight same [] v r = tt
+whole_tight same (x ∷ []) v r = tt
+whole_tight same (x ∷ y ∷ []) v r = tt
+whole_tight same (x ∷ y ∷ z ∷ []) v r = one_tight same x y z v r
+whole_tight same (x ∷ y ∷ z ∷ t ∷ ts) v r = tt
+
+-- rows of fewer or more terms than three
+pub few_tight : (same : SameChange) (terms : List Text) (rows : List (List (List ℕ))) → length terms < 3
+    → IsTightSplit same (bytes_of terms) rows
+few_tight same [] rows lt = tt
+few_tight same (x ∷ []) rows lt = tt
+few_tight same (x ∷ y ∷ []) rows lt = tt
+few_tight same (x ∷ y ∷ z ∷ []) rows lt = absurd (omega (arith, lt))
+few_tight same (x ∷ y ∷ z ∷ t ∷ ts) rows lt = tt
+
+pub many_tight : (same : SameChange) (terms : List Text) (rows : List (List (List ℕ))) → 4 ≤ length terms
+    → IsTightSplit same (bytes_of terms) rows
+many_tight same [] rows le = tt
+many_tight same (x ∷ []) rows le = tt
+many_tight same (x ∷ y ∷ []) rows le = tt
+many_tight same (x ∷ y ∷ z ∷ []) rows le = absurd (omega (arith, le))
+many_tight same (x ∷ y ∷ z ∷ t ∷ ts) rows le = tt
+
+pub three_tight : (same : SameChange) (terms : List Text) (d : Text) (rows : List (List (List ℕ))) → 3 ≤ length terms
+    → length terms < 4 → AreTight same (get_or terms 0 d).now (get_or terms 1 d).now (get_or terms 2 d).now rows
+    → IsTightSplit same (bytes_of terms) rows
+three_tight same [] d rows le lt tight = tt
+three_tight same (x ∷ []) d rows le lt tight = tt
+three_tight same (x ∷ y ∷ []) d rows le lt tight = tt
+three_tight same (x ∷ y ∷ z ∷ []) d rows le lt tight = tight
+three_tight same (x ∷ y ∷ z ∷ t ∷ ts) d rows le lt tight = tt
+
 -- the terms as one row
 pub whole_merge : (level : FileMergeHunkLevel) (same : SameChange) (inputs : List (List ℕ)) (v : List ℕ)
     (hunks : List (List (List ℕ))) → hunks ≡ (v ∷ []) ∷ [] → ResolvesTo bytes_eq same inputs v
@@ -140,6 +180,7 @@ whole_merge level same inputs v hunks e r = record {
     cuts = λ k i le lt. whole_lines inputs i k;
   };
   outcomes = subst (AllZip (IsHunk level same) (inputs ∷ [])) (sym e) (inl (v, refl, r), tt);
+  tight = whole_tight same inputs v r;
 }
 
 -- the outcome of a merge by words
@@ -161,6 +202,8 @@ words_unresolved same row terms ms m e f = record {
   merge = m;
   outcome = f ∙ sym (ap (λ b. cond b (merged_side 0 ms ∷ []) row) e);
 }
+
+pub ruleset split_steps = (few_tight, many_tight)
 
 pub ruleset outcome_steps = (zip_push, take_all)
 

@@ -10,7 +10,7 @@ use Rattle.jj_diff.specs.Tokens.{IsCut, IsTokenizer, TokenEnds}
 use Rattle.jj_diff.specs.Hunks.{AreCuts, AreLimits, AreStarts}
 use Rattle.jj_diff.proofs.HunkEnds.{starts_of}
 use Rattle.jj_diff.proofs.Rows.{take-slice_range, side-push, length-bytes_of}
-use Rattle.jj_content_merges.specs.Rows.{parts_of, rows_of, IsPrefixSplit}
+use Rattle.jj_content_merges.specs.Rows.{parts_of, rows_of, IsNextRow, IsPrefixSplit}
 use Rattle.jj_content_merges.specs.Files.{IsSplit}
 
 no_rows : (i k : ℕ) → side i (take k []) ≡ []
@@ -64,6 +64,14 @@ module _ (t : TokenEnds) (inputs : List (List ℕ)) where
       subst (λ rs. IsPrefixSplit t inputs rs ends) (sym (map_push parts_of rows row))
       (split_more (rows_of rows) (bytes_of row.items) at ends before ranges are_cuts is_row)
 
+  pub next_row : (rows : List (Vec (Bor (List ℕ)) Global)) (row : Vec (Bor (List ℕ)) Global) (at ends : List ℕ)
+      → AreParts inputs at ends (bytes_of row.items)
+      → IsNextRow inputs (rows_of rows) at ends (rows_of (rows ++ row ∷ []))
+  next_row rows row at ends is_row = inr (bytes_of row.items, is_row, map_push parts_of rows row)
+
+  pub no_row : (rows : List (List (List ℕ))) (at ends : List ℕ) → at ≡ ends → IsNextRow inputs rows at ends rows
+  no_row rows at ends e = inl (e, refl)
+
   -- from any offsets to the ends
   pub ranges_to_ends : (rows : List (List (List ℕ))) (at ends : List ℕ) → IsPrefixSplit t inputs rows at
       → AreLimits inputs 0 ends → AreRanges inputs at ends
@@ -91,4 +99,4 @@ cuts_at_ends t law inputs ends limits i lt =
 
 pub ruleset start_steps = (starts_of)
 
-pub ruleset split_steps = (split_push, split_start, ranges_to_ends, split_whole, length-bytes_of)
+pub ruleset split_steps = (split_push, next_row, no_row, split_start, ranges_to_ends, split_whole, length-bytes_of)

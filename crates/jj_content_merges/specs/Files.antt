@@ -14,6 +14,7 @@ use Rattle.jj_content_merges.specs.declared.files.hunks.MergeHunk.{MergeHunk}
 use Rattle.jj_content_merges.specs.declared.files.hunks.MergeHunk.TheVariants.{Resolved, Merged, Conflict}
 use Rattle.jj_content_merges.specs.declared.files.MergeResult.{MergeResult}
 use Rattle.jj_content_merges.specs.declared.files.MergeResult.TheVariants.{Resolved as ResolvedResult, Conflict as ConflictResult}
+use Rattle.jj_content_merges.specs.Comparisons.{IsTightSplit}
 use Rattle.jj_content_merges.specs.Hunks.{contents, joined, all_resolved, merged_side}
 
 -- the terms of a hunk: one if it is resolved
@@ -64,12 +65,15 @@ IsHunk level same row terms =
     ((v : List ℕ) × (terms ≡ v ∷ []) × ResolvesTo bytes_eq same row v)
     ⊎ (IsUnresolved level same row terms × ((v : List ℕ) → ¬ (ResolvesTo bytes_eq same row v)))
 
--- The hunks are the outcomes of rows of whole lines, whose columns, joined, are the inputs.
+-- The hunks are the outcomes of rows of whole lines, whose columns, joined, are the inputs. In a
+-- three-way merge, a line of the base that matches in comparisons with both sides is in no row that
+-- does not resolve.
 pub record IsContentMerge (level : FileMergeHunkLevel) (same : SameChange)
     (inputs : List (List ℕ)) (hunks : List (List (List ℕ))) : Type 0 where
   pub rows : List (List (List ℕ))
   pub split : IsSplit is_line_end inputs rows
   pub outcomes : AllZip (IsHunk level same) rows hunks
+  pub tight : IsTightSplit same inputs rows
 
 -- resolved exactly if no hunk is a conflict: then the hunks in one, else joined
 abbrev pub IsResult : List (List (List ℕ)) → MergeResult → Type 0

@@ -9,6 +9,7 @@ ghost use Rattle.jj_merges.specs.Resolution.{ResolvesTo};
 ghost use Rattle.jj_content_merges.specs.Hunks.{merge_contents, merged_terms};
 ghost use Rattle.jj_content_merges.specs.Files.{terms_of, IsContentMerge, IsMergeResult, IsResolvedTo, tried_outcome};
 
+mod comparing;
 mod hunks;
 mod joining;
 mod rows;
@@ -93,7 +94,8 @@ pub fn merge_hunks(
     options: &MergeOptions,
 ) -> Result<MergeResult, AllocError>
     // The result is that of hunks that are outcomes of rows of whole lines, whose columns, joined,
-    // are the inputs. It is resolved exactly if no hunk is a conflict.
+    // are the inputs. It is resolved exactly if no hunk is a conflict. In a three-way merge, no
+    // line of the base that matches in comparisons with both sides is in a conflict.
     ensures merge { IfOk result (λ merged. IsMergeResult options.now.hunk_level
         options.now.same_change (bytes_of inputs.now) merged) }
     // If the whole contents resolve to a value, this is the result.
@@ -119,7 +121,8 @@ pub fn merge(
     options: &MergeOptions,
 ) -> Result<Merge<Vec<u8>>, AllocError>
     // The terms are those of hunks that are outcomes of rows of whole lines, whose columns, joined,
-    // are the inputs.
+    // are the inputs. In a three-way merge, no line of the base that matches in comparisons with
+    // both sides is in a conflict.
     ensures merge { IfOk result (λ merged. (hunks : List (List (List ℕ)))
         × IsContentMerge options.now.hunk_level options.now.same_change (bytes_of inputs.now) hunks
         × (merge_contents merged ≡ merged_terms (length inputs.now) hunks)) }
@@ -145,7 +148,8 @@ pub fn try_merge(
     options: &MergeOptions,
 ) -> Result<Option<Vec<u8>>, AllocError>
     // The result is that of hunks that are outcomes of rows of whole lines, whose columns, joined,
-    // are the inputs; `None` if a hunk is a conflict.
+    // are the inputs; `None` if a hunk is a conflict. In a three-way merge, no line of the base
+    // that matches in comparisons with both sides is in a conflict.
     ensures merge { IfOk result (λ merged. (hunks : List (List (List ℕ)))
         × IsContentMerge options.now.hunk_level options.now.same_change (bytes_of inputs.now) hunks
         × (option_map (λ text. text.items) merged ≡ tried_outcome hunks)) }

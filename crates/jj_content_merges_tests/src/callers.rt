@@ -1,12 +1,16 @@
 //! Proved callers: contracts of content merges at the versions of a file.
-ghost use Rattle.std.specs.Prelude.{◌≡◌, ◌<◌, ◌∷◌, [], ℕ, List, length, true, IfOk};
+ghost use Rattle.std.specs.Prelude.{◌≡◌, ◌<◌, ◌∷◌, [], ℕ, List, length, map, true, IfOk};
 ghost use Rattle.jj_diff.specs.Inputs.{bytes_of};
-ghost use Rattle.jj_content_merges.specs.Files.{IsContentMerge, IsResolvedTo};
+ghost use Rattle.jj_diff.specs.Tokens.{is_line_end};
+ghost use Rattle.jj_diff.specs.Ends.{IsCommonStart};
+ghost use Rattle.jj_content_merges.specs.Files.{terms_of, IsContentMerge, IsResolvedTo};
 ghost use Rattle.jj_content_merges.specs.Hunks.{merge_contents, none_resolved};
 ghost use Rattle.jj_content_merges.specs.Measures.{IsAdditive};
-ghost use Rattle.jj_content_merges_tests.specs.Merges.{AddsUp};
+ghost use Rattle.jj_content_merges_tests.specs.Merges.{AddsUp, KeepsStart};
 
-use jj_content_merges::files::{FileMergeHunkLevel, MergeOptions, MergeResult, merge, merge_hunks};
+use jj_content_merges::files::{
+    FileMergeHunkLevel, MergeHunk, MergeOptions, MergeResult, merge, merge_hunks, merge_terms,
+};
 use jj_content_merges::laws::{change_laws, measure_laws, side_laws};
 use jj_merges::merge::{Merge, SameChange};
 use smallvec::SmallVec;
@@ -87,5 +91,23 @@ pub fn merge_whole(
     let inputs = three_terms(alloc, left, base, right)?;
     side_laws();
     let merged = merge(alloc, &inputs, options)?;
+    Ok(merged)
+}
+
+/// Merges two versions of a file with their base into hunks, adjacent ones not joined. The lines
+/// that all three start with are in no conflict.
+pub fn merge_sections<'a>(
+    alloc: Global,
+    left: &'a [u8],
+    base: &'a [u8],
+    right: &'a [u8],
+    options: &MergeOptions,
+) -> Result<Vec<MergeHunk<'a>>, AllocError>
+    ensures { IfOk result (λ merged. (n : ℕ)
+        → IsCommonStart is_line_end (left.now ∷ base.now ∷ right.now ∷ []) n
+        → KeepsStart n (left.now ∷ base.now ∷ right.now ∷ []) (map terms_of merged.items)) }
+{
+    let terms = [left, base, right];
+    let merged = merge_terms(alloc, &terms, options)?;
     Ok(merged)
 }

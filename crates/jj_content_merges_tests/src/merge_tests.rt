@@ -78,6 +78,15 @@ fn by_lines(rt: HostRuntime) -> Result<(), Fail> {
         ),
         (("a\nc\n", "a\nb\nc\n", "a\nb\nc\nd\n"), "=a\nc\nd\n"),
         (
+            ("a\nb\nc\nD\n", "a\nb\nc\nd\n", "A\nb\nc\nd\n"),
+            "=A\nb\nc\nD\n",
+        ),
+        (("a\na\nb\n", "a\nb\n", "a\nb\nc\n"), "=a\na\nb\nc\n"),
+        (
+            ("a\ny\n", "a\na\ny\n", "a\na\nY\n"),
+            "{a\n}{y\n|a\ny\n|a\nY\n}",
+        ),
+        (
             ("a\nL\nc\nd\ne\n", "a\nb\nc\nd\ne\n", "a\nR\nc\nd\nE\n"),
             "{a\n}{L\n|b\n|R\n}{c\nd\nE\n}",
         ),

@@ -1,13 +1,16 @@
 //! The outcomes of rows: the part of each term between cuts of a comparison.
 ghost use Rattle.std.specs.Prelude.{◌≡◌, ℕ, length, map, IfOk, All};
 ghost use Rattle.jj_diff.specs.Inputs.{bytes_of};
-ghost use Rattle.jj_diff.specs.Tokens.{is_word_end};
+ghost use Rattle.jj_diff.specs.Tokens.{is_line_end, is_word_end};
 ghost use Rattle.jj_merges.specs.Merge.{IsOdd};
 ghost use Rattle.std.specs.List.{AllZip};
 ghost use Rattle.jj_content_merges.specs.Rows.{rows_of};
-ghost use Rattle.jj_content_merges.specs.Files.{terms_of, Outcomes, IsOutcome, IsHunk, IsTokenMerge, IsWordMerge, IsContentMerge};
+ghost use Rattle.jj_merges.specs.declared.merge.SameChange.{SameChange};
+ghost use Rattle.jj_content_merges.specs.Comparisons.{IsTightSplit};
+ghost use Rattle.jj_content_merges.specs.Files.{terms_of, IsSplit, Outcomes, IsOutcome, IsHunk, IsTokenMerge, IsWordMerge, IsContentMerge};
 
 use super::FileMergeHunkLevel;
+use super::comparing::split_by_comparisons;
 use super::hunks::{MergeHunk, are_resolved, side_of};
 use super::splitting::split_tokens;
 use jj_diff::diff::{Lines, Words};
@@ -126,6 +129,27 @@ fn merge_lines<'a>(
     Ok(merged)
 }
 
+// Returns rows of whole lines. A row ends where the comparisons of the first remove with the other
+// terms do.
+#[tactic(auto, using(crate::proofs::Resolving::split_steps))]
+fn split_lines<'a>(alloc: Global, terms: &[&'a [u8]]) -> Result<Vec<Vec<&'a [u8]>>, AllocError>
+    ensures split { IfOk result
+        (λ rows. IsSplit is_line_end (bytes_of terms.now) (rows_of rows.items)) }
+    ensures tight { IfOk result (λ rows. (same : SameChange)
+        → IsTightSplit same (bytes_of terms.now) (rows_of rows.items)) }
+{
+    match terms {
+        [left, base, right] => {
+            let rows = split_by_comparisons(alloc, left, base, right)?;
+            Ok(rows)
+        }
+        _ => {
+            let rows = split_tokens(alloc, &Lines, terms, 1)?;
+            Ok(rows)
+        }
+    }
+}
+
 /// Compares each term line by line with the first remove, and merges each row of lines. A row ends
 /// where a comparison of a term does, as in a merge of two diffs.
 #[tactic(auto, using(crate::proofs::Resolving::merge_steps))]
@@ -139,7 +163,7 @@ pub fn merge_by_lines<'a>(
     ensures { IfOk result (λ merged.
         IsContentMerge level same_change (bytes_of terms.now) (map terms_of merged.items)) }
 {
-    let rows = split_tokens(alloc, &Lines, terms, 1)?;
+    let rows = split_lines(alloc, terms)?;
     let merged = merge_lines(alloc, &rows, level, same_change)?;
     Ok(merged)
 }

@@ -6,16 +6,16 @@ ghost use Rattle.jj_diff.specs.Inputs.{bytes_of, AreRanges, AreParts};
 ghost use Rattle.jj_diff.specs.Tokens.{IsCut};
 ghost use Rattle.jj_diff.specs.Hunks.{AreCuts, AreLimits};
 ghost use Rattle.jj_content_merges.specs.Files.{IsSplit};
-ghost use Rattle.jj_content_merges.specs.Rows.{rows_of, IsPrefixSplit};
+ghost use Rattle.jj_content_merges.specs.Rows.{rows_of, IsNextRow, IsPrefixSplit};
 
 use jj_diff::diff::{MatchedRegion, Tokenizer, find_regions};
 use std::alloc::{AllocError, Global};
 
 // Rows that end at the offsets `at`.
 #[derive(Drop)]
-struct Splitter<'a> {
-    rows: Vec<Vec<&'a [u8]>>,
-    at: Vec<usize>,
+pub(super) struct Splitter<'a> {
+    pub(super) rows: Vec<Vec<&'a [u8]>>,
+    pub(super) at: Vec<usize>,
 }
 
 // Whether no token is only partly in the prefix of this length.
@@ -82,7 +82,7 @@ fn lengths(alloc: Global, inputs: &[&[u8]]) -> Result<Vec<usize>, AllocError>
 impl<'a> Splitter<'a> {
     // Appends the row that ends at `ends`, unless it is empty.
     #[tactic(auto, using(crate::proofs::Splitting::split_steps))]
-    fn advance<T: Tokenizer>(
+    pub(super) fn advance<T: Tokenizer>(
         &mut self,
         alloc: Global,
         tokenizer: &T,
@@ -96,6 +96,8 @@ impl<'a> Splitter<'a> {
         ensures split { OnOk result (IsPrefixSplit (T.is_end tokenizer.now) (bytes_of inputs.now)
             (rows_of self.new.rows.items) self.new.at.items) }
         ensures at { OnOk result (self.new.at.items ≡ ends.now) }
+        ensures rows { OnOk result (IsNextRow (bytes_of inputs.now) (rows_of self.old.rows.items)
+            self.old.at.items ends.now (rows_of self.new.rows.items)) }
     {
         if self.at.as_slice() == ends {
             return Ok(());

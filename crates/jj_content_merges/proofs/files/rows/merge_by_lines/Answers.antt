@@ -8,5 +8,5 @@ use Rattle.jj_content_merges.proofs.files.rows.merge_by_lines.Goals as goal
 pub merge_lines-requires : goal.merge_lines-requires
 merge_lines-requires c =
     subst (λ rows. All (λ row. IsOdd (length row.items)) rows) (sym c.deref.ensures.value)
-    (odd_parts is_line_end (bytes_of c.args.terms.now) c.in_ok-rows.rows.items c.in_ok-rows.ensures
+    (odd_parts is_line_end (bytes_of c.args.terms.now) c.in_ok-rows.rows.items c.in_ok-rows.ensures.split
     (subst IsOdd (sym (length-bytes_of c.args.terms.now)) c.requires))
