@@ -1,19 +1,17 @@
-"""Reads specifications: the definitions that contracts cite, and what a name in a contract means.
-
-Definitions are found by indentation. A name is looked up through the imports of its file; a field,
-in the types that its text leads to.
-"""
+"""The definitions that contracts cite, and what a name in a contract means: it is looked up through
+the imports of its file; a field, in the types that its text leads to."""
 import html
 import re
 from collections import defaultdict
 from functools import cached_property, lru_cache
-from typing import NamedTuple
 
-from source_reader import CRATES, FAULTS, TYPES, home_of, toolchain_home, top_items
-from spec_reader import entries, imports
+from source_reader import CRATES, FAULTS, TYPES, home_of, indent, toolchain_home, top_items
 
+from .markdown import listed
+from .specs import BLOCK, KEYWORD, NEW, definition_lines, head_comments, imports
+
+DECLARED = (*TYPES, "const", "static")
 STD = ["std", "core", "std_alloc", "std_collections", "std_io", "io"]
-LOGIC = set("lib denote base borrow mir prog store types abs contract ghost sound".split())
 INFIX = "≡ ≢ ↔ ⊎ ++ ∷ == && || +ℤ -ℤ *ℤ ≤ℤ <ℤ ∈"
 OPERATORS = {it: f"◌{it}◌" for it in INFIX.split()} | {"if": "if◌then◌else◌"}
 CLOSURES = {"pre": "f may be called at these arguments",
@@ -24,77 +22,75 @@ CLOSURES = {"pre": "f may be called at these arguments",
 WORD = r'[^\s(){}\[\],;."]+'
 ASIDE = r'(?P<aside>(?:--|//)[^\n]*|"(?:\\.|[^"\\])*")|'
 TOKEN = re.compile(ASIDE + r"⟦<[^⟧]*? as (?P<trait>\w+)[^⟧]*>⟧\.(?P<member>\w+)|"
-                   rf"{WORD}(?:\.{WORD})*")
+                   rf"\.?{WORD}(?:\.{WORD})*")
 TYPE_TOKEN = re.compile(ASIDE + r"(?P<trait>\b)(?P<member>)\w+(?:\.\w+)*")
 CONSTRUCTORS = {"zero", "suc", "true", "false", "pos", "negsuc", "[]"}
 # A field, and no word for the value behind a reference at some time.
 FIELD = re.compile(r"(?<=\.)(?!(?:now|old|new|entry|cur|fin)\b)[a-z]\w*(?=\W|$)")
 MOST_LINES = 60
+# The definitions that the HTML of texts links to, by the keys in its links.
+LINKED = {}
 
 
 class Names:
-    """What the names in a text mean by its imports."""
+    """What the names in a text mean by its own definitions and by its imports."""
 
-    def __init__(self, text="", crate=""):
-        self.names, self.modules, self.passed = imports(text)
-        self.crate = crate
+    def __init__(self, text="", crate="", path=""):
+        self.imports, self.passed = imports(text)
+        self.crate, self.path, self.own = crate, path, {}
 
     def find(self, token):
         """The definition that a token means, or None."""
-        head, *rest = token.split(".")
-        if rest and head in self.modules:
-            return found_in(self.modules[head], rest[0])
-        known = (it for it in (head, OPERATORS.get(head)) if it in self.names)
-        return first(found_in(*self.names[it]) for it in known)
+        head, dot, rest = token.partition(".")
+        path, name = self.imports.get(head + dot) or self.imports.get(head, ("", ""))
+        return self.own.get(head) or module_of(path).lookup(name or rest.partition(".")[0])
+
+    def lookup(self, name):
+        """The definition that other files get by this name, or None."""
+        path, there = self.passed.get(name, ("", ""))
+        return self.own.get(name) or (module_of(path).lookup(there) if there else None)
 
 
 class Definition:
     """A word that contracts cite, with the text that unfolds."""
 
-    def __init__(self, crate, ident, kind, doc, text, scope, where, context="", declaration="",
-                 values=()):
-        self.crate, self.ident, self.kind, self.doc, self.text = crate, ident, kind, doc, text
+    def __init__(self, ident, kind, doc, text, scope, where, context="", declaration="", values=()):
+        self.ident, self.kind, self.doc, self.text = ident, kind, doc, text
         self.scope, self.where, self.context = scope, where, context
-        self.declaration, self.values = declaration, values
-        self.key, self.name = f"{crate}/{ident}", ident.rpartition(".")[2]
-        self.is_ours = crate in CRATES
+        self.declaration, self.values, self.crate = declaration, values, scope.crate
+        self.key, self.name = f"{scope.crate}/{ident}", ident.rpartition(".")[2]
+        self.is_ours = scope.crate in CRATES
 
     @cached_property
     def fields(self):
         """The names of its fields, if it is a record or a struct."""
-        is_record = re.match(r".*\brecord\b", self.text)
-        declared = self.text if is_record else self.declaration
+        declared = self.text if re.match(r".*\brecord\b", self.text) else self.declaration
         return set(re.findall(r"^ +(?:pub(?:\(\w+\))? )?(?:ghost )?(\w+) ?:(?!:)", declared, re.M))
 
     @cached_property
     def texts(self):
         """Its context, and the text."""
-        hidden = binders(self.text + "\n" + self.context) | {self.name}
+        hidden = binders(self.text + "\n" + self.context) | {self.name, ""}
         hidden |= set(re.findall(r"(?m)^    (\w+)", self.text)) if self.kind == "enum" else set()
-        mark = r"(?m)^(\s*)(?:(?:abbrev |unfoldable )?pub|abbrev|unfoldable) "
-        lines = re.sub(mark, r"\1", self.text).split("\n")
+        lines = re.sub(r"(?m)^(\s*)(?:(?:abbrev|unfoldable|pub) )+", r"\1", self.text).split("\n")
         if len(lines) > MOST_LINES:
             lines[MOST_LINES:] = [f"-- {len(lines) - MOST_LINES} more lines"]
         token = TYPE_TOKEN if self.kind in TYPES else TOKEN
         return [Text(it, self.scope, hidden, token) for it in (self.context, "\n".join(lines))]
 
     @cached_property
-    def parts(self):
-        """Its HTML, and the definitions that it cites."""
-        (given, cited1), (said, cited2) = (it.html([self]) for it in self.texts)
-        rows = "".join(f"<li>for <code>{html.escape(of)}</code>: {it.parts[0]}"
-                       for of, it in self.values)
+    def html(self):
+        given, said = (it.html([self]) for it in self.texts)
         given = f"<p class=given>for given <code>{given}</code></p>" if given else ""
-        values = f"<details><summary>Its values</summary><ul>{rows}</ul></details>" if rows else ""
-        cited = [*cited1, *cited2, *(more for _, it in self.values for more in it.parts[1])]
-        return f"{given}<pre>{said}</pre>{values}", cited
+        values = listed(f"for <code>{html.escape(of)}</code>: {it.html}" for of, it in self.values)
+        values = f"<details><summary>Its values</summary>{values}</details>" if values else ""
+        return f"{given}<pre>{said}</pre>{values}"
 
 
 def binders(text):
     """The variables that a text binds: they are no definitions, whatever their names."""
-    groups = re.findall(r"[({]\s*([^:(){}=]+?)\s+:|λ ([^.]*)\.|\blet (\S+)", text)
+    groups = re.findall(r"[({]\s*([^:(){}=]+?)\s+:|λ ([^.]*)\.|\blet (\S+)|[{;]\s*(\w+) =", text)
     found = set(re.sub(r"[(),]", " ", " ".join(map(" ".join, groups))).split())
-    found |= set(re.findall(r"[{;]\s*(\w+) =", text))
     for left in re.findall(r"^\s*\S+ ([^:=\n]*?) =", text, re.M):
         found |= {it for it in re.findall(r"[^\s(){}=]+", left) if it[0].islower()}
     return found - CONSTRUCTORS
@@ -107,37 +103,28 @@ class Text:
     def __init__(self, text, scope, hidden, token=TOKEN):
         self.text, self.scope, self.tokens, self.missing = text, scope, [], []
         for it in token.finditer(text):
-            target, is_field = None, text[it.start() - 1:it.start()] == "."
+            target = None
             if it["member"]:
                 target = ghost_member(scope.crate, it["trait"], it["member"])
-            elif not (is_field or it["aside"] or it[0].split(".")[0] in hidden):
-                target = scope.find(it[0])
+            elif not (it["aside"] or it[0].split(".")[0] in hidden):
+                target = scope.find(OPERATORS.get(it[0], it[0]))
                 self.missing += [] if target else [it[0]]
-            self.tokens.append((it, target))
+            fields = () if target or it["aside"] else FIELD.finditer(text, *it.span())
+            self.tokens += [(of, None) for of in fields] or [(it, target)]
         self.links = {it for _, it in self.tokens if it}
-
-    def spans(self, roots):
-        """The tokens that are marked, and the fields of what is below these definitions."""
-        for found, target in self.tokens:
-            if target or found["aside"]:
-                yield found, target
-                continue
-            for field in FIELD.finditer(self.text, found.start(), found.end()):
-                if of := field_of(field[0], roots):
-                    yield field, of
 
     def html(self, roots=()):
         """The text in HTML, with a link at each word with a definition, and at each field of what
-        is below these and `roots`; and the definitions that it links to."""
-        cited, out, at = {}, [], 0
-        for found, target in self.spans([*roots, *self.links]):
-            said, tags = html.escape(found[0]), ("<i>", "</i>")
-            if target:
-                cited[target] = True
+        is below these and `roots`."""
+        out, at, roots = [], 0, [*roots, *self.links]
+        for found, target in self.tokens:
+            tags = ("<i>", "</i>") if found.lastgroup == "aside" else ("", "")
+            if target := field_of(found[0], roots) if found.re is FIELD else target:
+                LINKED[target.key] = target
                 tags = f'<a {"w" if target.is_ours else "k"}="{html.escape(target.key)}">', "</a>"
-            out += [html.escape(self.text[at:found.start()]), said.join(tags)]
+            out += [html.escape(self.text[at:found.start()]), html.escape(found[0]).join(tags)]
             at = found.end()
-        return "".join(out) + html.escape(self.text[at:]), list(cited)
+        return "".join(out) + html.escape(self.text[at:])
 
 
 def field_of(name, roots):
@@ -157,79 +144,90 @@ class Module(Names):
 
     def __init__(self, file, path, crate, dotted):
         text = file.read_text()
-        super().__init__(text, crate)
-        self.path, self.own = path, {}
-        place = f"{crate}/specs/{dotted.replace('.', '/')}.antt"
-        faults = FAULTS if crate in CRATES else []
-        unread = f"crates/{place}:{{}}: is no definition that can be read"
-        for it in entries(text, lambda number: faults.append(unread.format(number))):
-            kind = "proof" if it.is_proof() else "definition"
-            self.own[it.name] = made = Definition(crate, f"{dotted}.{it.name}", kind, it.comment,
-                                                  it.text, self, place, it.context())
-            for name in it.constructors():
-                self.own.setdefault(name, made)
+        super().__init__(text, crate, path)
+        self.dotted, self.place = dotted, f"{crate}/specs/{dotted.replace('.', '/')}.antt"
+        self.read(text)
+        for it in [it for it in self.own.values() if re.match(r".*\bdata\b", it.text)]:
+            names = " ".join(re.findall(r"^  ([^:(){}]+?) :", it.text, re.M)).split()
+            self.own = dict.fromkeys(names, it) | self.own
+
+    def read(self, text):
+        """Reads the definitions, each with the comment above it; of a proof only the statement."""
+        around, current, margin, comment, above = {}, None, 0, [], head_comments(text)
+        for line in definition_lines(text):
+            bare, at = line.strip(), indent(line)
+            if not bare:
+                comment = []
+            elif current and at > margin:
+                current.text += "\n" + line[margin:]
+            elif bare.startswith("--"):
+                comment.append(bare[2:].strip())
+                current = None
+            else:
+                around = {it: block for it, block in around.items() if it < at}
+                if block := BLOCK.match(bare):
+                    around[at], current = block, None
+                elif new := NEW.match(bare):
+                    current, margin = self.define(new, around.values()), at
+                    current.doc = " ".join(comment) or above.get(new[2], "")
+                elif KEYWORD.match(bare) and self.crate in CRATES:
+                    row = text.split("\n").index(line) + 1
+                    FAULTS.append(f"crates/{self.place}:{row}: is no definition that can be read")
+                elif current and current.kind == "definition":
+                    current.text += "\n" + bare
+                else:
+                    current = None
+                comment = []
+
+    def define(self, new, around):
+        """A definition, or a proof, by its first line and the blocks around it."""
+        is_proof = not re.search(r"abbrev|unfoldable|data|record", new[1])
+        kind = "proof" if is_proof and all(it["module"] for it in around) else "definition"
+        context = " ".join(it["parameters"].strip() for it in around if it["parameters"])
+        self.own[new[2]] = Definition(f"{self.dotted}.{new[2]}", kind, "", new.string, self,
+                                      self.place, context)
+        return self.own[new[2]]
+
+
+class Declared(Names):
+    """The types of a crate's sources, as definitions import them by such a path."""
+
+    def __init__(self, crate, *names):
+        super().__init__()
+        self.crates = STD if crate == "std" else [crate]
+        self.owner = [it for it in names if it not in ("TheVariants", "TheConstants")][-1]
 
     def lookup(self, name):
-        """A definition that other files get by this name."""
-        return self.own.get(name) or found_in(*self.passed.get(name, ()))
-
-    def find(self, token):
-        head = token.partition(".")[0]
-        return self.own.get(head) or self.own.get(OPERATORS.get(head)) or super().find(token)
+        return declared_type(self.owner, self.crates) or declared_type(name, self.crates)
 
 
 @lru_cache(None)
 def module_of(path):
-    """The module of this path: a file, what another module passes on, or types of sources; or
-    None."""
+    """The module of this path: a file, what another module passes on, or types of sources; an empty
+    one if there is none."""
     first, *parts = path.split(".")
+    logic = toolchain_home() / "logic" / first.title()
     if "declared" in parts:
-        names = [it for it in parts if it not in ("declared", "TheVariants", "TheConstants")]
-        return Declared(parts[0], names[-1])
+        return Declared(*parts)
     if first == "Rattle":
-        crate, dotted, file = parts[0], parts[2:] or ["Lib"], home_of(parts[0])
-        file = file.joinpath(*parts[1:2], *dotted)
-    elif first in LOGIC:
-        crate, dotted = "logic", [first, *parts]
-        file = toolchain_home().joinpath("logic", first.title(), *parts)
+        crate, dotted = parts[0], parts[2:] or ["Lib"]
+        file = home_of(crate).joinpath(*parts[1:2], *dotted)
+    elif logic.exists():
+        crate, dotted, file = "logic", [first, *parts], logic.joinpath(*parts)
     else:
         crate, dotted = "mathlib", parts or [first]
         file = toolchain_home().joinpath("antt/port/mathlib/src", *parts)
     if file.with_suffix(".antt").is_file():
         return Module(file.with_suffix(".antt"), path, crate, ".".join(dotted))
     up, _, last = path.rpartition(".")
-    above = module_of(up) if len(parts) > 1 else None
-    if not isinstance(above, Module):
-        return None
-    if last in above.passed:
-        return module_of(".".join(filter(None, above.passed[last])))
-    return module_of(f"{above.path}.{last}") if above.path != up else None
-
-
-def found_in(path="", name=""):
-    module = name and module_of(path)
-    return module.lookup(name) if module else None
-
-
-class Declared(NamedTuple):
-    """The types of a crate's sources, as definitions import them."""
-    crate: str
-    owner: str
-
-    def lookup(self, name):
-        crates = STD if self.crate == "std" else [self.crate]
-        return declared_type(self.owner, crates) or declared_type(name, crates)
+    above = module_of(up) if len(parts) > 1 else Names()
+    if passed := above.passed.get(f"{last}.") or above.passed.get(last):
+        return module_of(".".join(filter(None, passed)))
+    return module_of(f"{above.path}.{last}") if above.path not in ("", up) else Names()
 
 
 def first(found):
     return next(filter(None, found), None)
-
-
-def declared(name, crates, kind=""):
-    """The type, trait or constant of this name, or only what is of this kind, in the first of
-    these crates that has it."""
-    found = (declared_items(it).get(name) for it in crates)
-    return first(it for it in found if it and kind in ("", it.kind))
 
 
 def below(crate):
@@ -240,12 +238,18 @@ def below(crate):
 @lru_cache(None)
 def declared_items(crate):
     """The types, traits and constants of a crate by name."""
-    found = [it for it in top_items(crate) if it.kind in (*TYPES, "const", "static")]
+    found = [it for it in top_items(crate) if it.kind in DECLARED]
     return {it.name: it for it in sorted(found, key=lambda it: it.public)}
 
 
-def declared_type(name, crates):
-    item = declared(name, crates)
+def declared(name, crates, kinds=DECLARED):
+    """The type, trait or constant of this name, in the first of these crates that has it."""
+    found = (declared_items(it).get(name) for it in crates)
+    return first(it for it in found if it and it.kind in kinds)
+
+
+def declared_type(*words):
+    item = declared(*words)
     return item and type_definition(item)
 
 
@@ -253,27 +257,24 @@ def declared_type(name, crates):
 def type_definition(item):
     """The type, trait or constant as a definition: the fields, the ghost members, and the value
     that contracts see."""
-    crate, text, scope = item.source.crate, item.signature(), Scope(item.source, item)
-    for impl in top_items(crate, "impl"):
+    text, scope = item.signature(), Scope(item)
+    for impl in top_items(item.source.crate, "impl"):
         if (impl.trait, impl.type) == ("Model", item.name):
             members = (f"{it.name} = {it.body}" for it in impl.ghosts.values())
-            text += "\n-- Contracts see its Value:\n" + "\n".join(members)
-            scope = Scope(impl.source, impl)
-    return Definition(crate, f"type.{item.name}", item.kind, item.note, text, scope,
-                      item.source.where(),
+            text = "\n".join([text, "-- Contracts see its Value:", *members])
+            scope = Scope(impl)
+    return Definition(f"type.{item.name}", item.kind, item.note, text, scope, item.source.where(),
                       declaration=item.text if item.kind == "struct" else "")
 
 
 @lru_cache(None)
-def ghost_member(crate, trait, member, depth=0):
+def ghost_member(crate, trait, member):
     """A ghost member of a trait or of the traits above it."""
-    item = declared(trait, below(crate), "trait")
-    if not item or depth > 5:
-        return None
-    if member in item.ghosts:
-        return ghost_definition(item.ghosts[member])
+    item = declared(trait, below(crate), ["trait"])
+    if not item or member in item.ghosts:
+        return item and ghost_definition(item.ghosts[member])
     above = re.findall(r"\b[A-Z]\w*", item.head.partition(":")[2].partition("where")[0])
-    return first(ghost_member(item.source.crate, it, member, depth + 1) for it in above)
+    return first(ghost_member(item.source.crate, it, member) for it in above if it != trait)
 
 
 @lru_cache(None)
@@ -284,49 +285,44 @@ def ghost_definition(item):
     impls = top_items(crate, "impl") if is_declared and crate in CRATES else []
     values = [(it.implemented["of"], ghost_definition(it.ghosts[name])) for it in impls
               if it.trait == trait and name in it.ghosts]
-    return Definition(crate, f"ghost.{trait}.{name}", f"ghost member of the trait {trait}",
-                      item.note, f"{name} {':' if is_declared else '='} {item.body}",
-                      Scope(item.source, item), item.source.where(), values=values)
+    return Definition(f"ghost.{trait}.{name}", f"ghost member of the trait {trait}", item.note,
+                      f"{name} {':' if is_declared else '='} {item.body}", Scope(item),
+                      item.source.where(), values=values)
 
 
-CLOSURE_WORDS = {word: Definition("logic", f"closure.{word}", "word", doc, f"F.{word}", Names(),
+CLOSURE_WORDS = {word: Definition(f"closure.{word}", "word", doc, f"F.{word}", Names("", "logic"),
                                   "CLOSURES.md of the toolchain") for word, doc in CLOSURES.items()}
 
 
 class Scope(Names):
-    """The names that a text of a source may use."""
+    """The names that a text of an item may use."""
 
-    def __init__(self, source, item):
+    def __init__(self, item):
         around = [it for it in (item, item.parent) if it]
         inner = [child for it in around for child in it.children]
-        used = (it.head for it in (*source.top, *inner) if it.kind == "ghost use")
-        super().__init__("\n".join(used), source.crate)
-        heads = " ".join(it.head for it in around if it.kind != "ghost")
+        used = (it.head for it in (*item.source.top, *inner) if it.kind == "ghost use")
+        super().__init__("\n".join(used), item.source.crate)
+        self.heads = " ".join(it.head for it in around if it.kind != "ghost")
         self.bounds = defaultdict(list)
-        for name, traits in re.findall(r"\b([A-Z]\w*)\s*:(?!:)\s*([^,;{]*)", heads):
+        for name, traits in re.findall(r"\b([A-Z]\w*)\s*:(?!:)\s*([^,;{]*)", self.heads):
             self.bounds[name] += re.findall(r"(?:^|\+)\s*(?:\w+::)*([A-Z]\w*)", traits)
-        own = [it.trait for it in around if it.trait][:1]
-        self.bounds["Self"] += own
+        self.bounds["Self"] += [it.trait for it in around if it.trait][:1]
         # The traits whose ghost members a text calls by their bare names.
-        self.traits = [*own, *dict.fromkeys(re.findall(r"dyn (\w+)", source.text))]
+        self.traits = self.bounds["Self"] + re.findall(r"dyn (\w+)", item.source.text)
 
     def find(self, token):
-        crate, (head, *rest) = self.crate, token.split(".")
-        is_type = rest and (head in self.bounds or re.fullmatch(r"[A-Z][A-Z0-9]?", head))
-        if is_type and head not in self.modules:
-            return self.member(crate, head, rest)
-        members = (ghost_member(crate, it, head) for it in self.traits if not rest)
-        found = super().find(token) or first(members)
+        head, *rest = token.split(".")
+        if found := super().find(token):
+            return found
+        if rest and (head in self.bounds or re.fullmatch(r"[A-Z][A-Z0-9]?", head)):
+            traits = [*self.bounds.get(head, []), *self.bounds["Self"]]
+            traits = ["Iterator"] if "IntoIter" in rest else traits
+            return (CLOSURE_WORDS.get(rest[-1]) or self.member(rest[-1], traits) or
+                    declared_type(rest[-1], below(self.crate), ["trait"]))
+        found = None if rest else self.member(head, self.traits)
         if found or not head[:1].isupper() or head in self.bounds:
             return found
-        return declared_type(head, below(crate) if crate in CRATES else [crate])
+        return declared_type(head, below(self.crate) if self.crate in CRATES else [self.crate])
 
-    def member(self, crate, head, rest):
-        """A ghost member of a type that is given by its traits, or a word of a closure."""
-        if rest[-1] in CLOSURE_WORDS:
-            return CLOSURE_WORDS[rest[-1]]
-        traits = [*self.bounds.get(head, []), *self.bounds.get("Self", [])]
-        traits = ["Iterator"] if "IntoIter" in rest else traits
-        found = first(ghost_member(crate, it, rest[-1]) for it in traits)
-        trait = None if found else declared(rest[-1], below(crate), "trait")
-        return type_definition(trait) if trait else found
+    def member(self, name, traits):
+        return first(ghost_member(self.crate, it, name) for it in traits)

@@ -5,11 +5,10 @@ from collections import defaultdict
 
 from crate_list import ROOT, is_library, is_test_support
 from guarantees import LINK, claims, section_lines
-from source_reader import (CRATES, TYPES, exported_items, functions, home_of, items_at,
-                           public_modules, source_at, sources, top_items)
+from source_reader import (CRATES, exported_items, functions, home_of, items_at, public_modules,
+                           source_at, sources, top_items)
 
 SHOWN = [it for it in CRATES if not it.startswith("rows") and it != "conformance"]
-TESTS = [it for it in SHOWN if is_test_support(it)]
 # The crates whose functions are callers of the libraries, examples and the exports to C among them.
 EXAMPLES = ("jj_store_walks", "failing_reads", "jj_core_c")
 CALLERS = [it for it in SHOWN if not is_library(it) or it in EXAMPLES]
@@ -19,12 +18,13 @@ CALL = re.compile(r"(\.\s*)?(?:(\w+)(?:::<[^>()]*>)?::)?\b(\w+)(?:::<[^>]*>)?\("
 
 
 def title_of(path):
-    return path.read_text().split("\n", 1)[0].strip("# ")
+    return path.read_text().partition("\n")[0].strip("# ")
 
 
 def crates_of(path):
-    """The crates that the title of a document names."""
-    return [it for it in re.findall(r"`(\w+)`", title_of(path)) if it in CRATES]
+    """The crates that the title of a document names, each with its callers."""
+    named = re.findall(r"`(\w+)`", title_of(path))
+    return [it for name in named for it in (name, f"{name}_tests") if it in CRATES]
 
 
 def page_of(module):
@@ -36,9 +36,8 @@ class Project:
     the guide of each."""
 
     def __init__(self):
-        self.on_page, self.notes, self.guide, self.mutations = (defaultdict(list) for _ in range(4))
-        self.by_name, self.shows = defaultdict(list), defaultdict(list)
-        self.claims, self.callers = defaultdict(dict), defaultdict(dict)
+        self.by_name, self.notes, self.shows, self.mutations = (defaultdict(list) for _ in range(4))
+        self.on_page, self.claims, self.callers, self.guide = (defaultdict(dict) for _ in range(4))
         self.pages, self.rows = [], claims()
         for crate in SHOWN:
             self.place(crate)
@@ -46,10 +45,9 @@ class Project:
         self.read_mutations()
         self.read_callers()
         for page in GUIDE:
-            text = page.read_text().partition("\n")[2]
-            for words in dict.fromkeys(re.findall(r"`([\w:]+)`", text)):
+            for words in re.findall(r"`([\w:]+)`", page.read_text().partition("\n")[2]):
                 for item in (it for crate in crates_of(page) for it in self.find(crate, words)):
-                    self.guide[item].append(page)
+                    self.guide[item][page] = True
 
     def place(self, crate):
         """Places each public item of a crate on the page of the module by which users name it, and
@@ -60,18 +58,17 @@ class Project:
             for item in (it for it in exported_items(module) if it.source.crate == crate):
                 if item not in homes or item.source is module:
                     homes[item] = module
-        for item in top_items(crate, "fn"):
-            if re.match(r'pub (?:unsafe )?extern "C"', item.text):
-                homes.setdefault(item, modules[0])
+        homes |= {it: homes.get(it, modules[0]) for it in top_items(crate, "fn")
+                  if re.match(r'pub (?:unsafe )?extern "C"', it.text)}
         shown = {it.name for it in homes}
         for item, module in homes.items():
             self.add(item, module, item.name)
-            for child in item.children if item.kind == "trait" else []:
+            for child in item.children:
                 self.add(child, module, f"{item.name}.{child.name}")
-            for impl in top_items(crate, "impl") if item.kind in TYPES else []:
-                if item.kind != "trait" and impl.type == item.name:
+            for impl in top_items(crate, "impl"):
+                if impl.type == item.name:
                     self.add_impl(impl, module, f"{item.name}.{impl.trait}".rstrip("."))
-                elif item.kind == "trait" and impl.trait == item.name and impl.type not in shown:
+                elif impl.trait == item.name and impl.type not in shown:
                     of = re.sub(r"[^A-Za-z0-9]+", "-", impl.implemented["of"]).strip("-")
                     self.add_impl(impl, module, f"{item.name}.for.{of}")
 
@@ -84,10 +81,9 @@ class Project:
     def add(self, item, module, anchor):
         if item.kind == "ghost use" or item.page:
             return
-        item.page, item.anchor = page_of(module), anchor
-        while any(it.anchor == item.anchor for it in self.on_page[module]):
-            item.anchor += "-"
-        self.on_page[module].append(item)
+        while anchor in self.on_page[module]:
+            anchor += "-"
+        item.page, item.anchor, self.on_page[module][anchor] = page_of(module), anchor, item
         self.by_name[item.name].append(item)
 
     def find(self, crate, words):
@@ -132,23 +128,20 @@ class Project:
         """Enters each function with a contract of a crate of callers at the functions of the
         libraries below that it calls: a method if the caller names only one type that has one of
         its name, at the type and at its traits."""
-        owners, types = defaultdict(set), defaultdict(set)
+        types = {}
         for impl in (it for crate in CRATES for it in top_items(crate, "impl") if it.trait):
-            types[impl.trait].add(impl.type)
-        for item in (it for crate in CRATES for it in functions(crate)):
-            owners[item.name].add(item.owner)
-        for caller in (it for crate in CALLERS for it in functions(crate)):
-            if not (caller.anchor and any("ensures" in it.kind for it in caller.clauses)):
-                continue
-            below = [it for it in CRATES[caller.source.crate] if it not in TESTS]
+            types.setdefault(impl.trait, {impl.trait}).add(impl.type)
+        callers = (it for crate in CALLERS for it in functions(crate) if it.anchor)
+        for caller in (it for it in callers if any("ensures" in of.kind for of in it.clauses)):
+            below = [it for it in CRATES[caller.source.crate] if not is_test_support(it)]
             heads = caller.head + (caller.parent.head if caller.parent else "")
             words = set(re.findall(r"\w+", heads + caller.body))
             for dot, owner, name in CALL.findall(caller.body):
-                owner = caller.owner if owner == "Self" else owner
-                called = {owner if owner[:1].isupper() else ""}
+                found = [it for it in self.by_name[name] if it.kind == "fn"]
+                called = {caller.owner if owner == "Self" else owner if owner[:1].isupper() else ""}
                 if dot:
-                    called = {it for it in owners[name] if ({it} | types.get(it, set())) & words}
+                    called = {it.owner for it in found if types.get(it.owner, {it.owner}) & words}
                     called = called if len(called - types.keys()) <= 1 else set()
-                for item in (it for it in self.by_name[name] if it.source.crate in below):
-                    if item.kind == "fn" and ({item.owner} | types.get(item.owner, set())) & called:
+                for item in (it for it in found if it.source.crate in below):
+                    if types.get(item.owner, {item.owner}) & called:
                         self.callers[item][caller] = True

@@ -70,17 +70,19 @@ async function toggle_all(button) {
 
 function find() {
   const asked = by('query').value.toLowerCase().split(/[\s:.]+/).filter(Boolean), last = asked.at(-1), whole = asked.join('_')
-  const short_of = ([name]) => name.toLowerCase().split('::').pop(), is_named = (short) => short.includes('_') && asked.includes(short)
+  const short_of = ([name]) => name.toLowerCase().split('::').pop()
+  const is_named = (short) => short.includes('_') && (asked.includes(short) || short.split('_').every((word) => asked.includes(word)))
   const rank = (it) => {
     const short = short_of(it), kind = it[1]
     const near = [short == whole, short == last, is_named(short), short.startsWith(whole), kind == 'claim', short.startsWith(last), short.includes(last), true]
-    return near.indexOf(true) + (['definition', 'ghost'].includes(kind) ? 0.5 : 0)
+    return near.indexOf(true) + (['definition', 'ghost'].includes(kind) ? 0.5 : 0) + (/_tests\b|^contracts_/.test(it[2]) ? 0.6 : 0)
   }
-  // What has all words, or else most of them, or a name that is one of them.
+  // What has all words, or else most of them, or all but one, or a name that is of these words.
   const words_in = (it, said = `${it[2]} ${it[0]} ${it[4]}`.toLowerCase()) => asked.filter((word) => said.includes(word)).length
   const most = names.reduce((most, it) => Math.max(most, words_in(it)), 1)
-  const hits = asked.length ? names.filter((it) => words_in(it) == most || is_named(short_of(it))).sort((a, b) => rank(a) - rank(b)).slice(0, 30) : []
-  by('hits').replaceChildren(...hits.map(([name, kind, module, href, said]) => {
+  const hits = asked.length ? names.filter((it) => words_in(it) >= Math.max(most - 1, 1) || is_named(short_of(it))) : []
+  hits.sort((a, b) => is_named(short_of(b)) - is_named(short_of(a)) || words_in(b) - words_in(a) || rank(a) - rank(b))
+  by('hits').replaceChildren(...hits.slice(0, 30).map(([name, kind, module, href, said]) => {
     const row = make('li', { innerHTML: '<a><b></b> <span class=kind></span><br><span></span></a>' })
     row.firstChild.href = href
     row.querySelector('b').textContent = name
@@ -96,7 +98,7 @@ async function show_word() {
   if (!by('word') || !key) return
   if (key != crate) return by('word').replaceChildren(await box_of(key, null))
   await load(`d/${crate}.js`)
-  const list = Object.keys(words[crate] ?? {}).map((it) => `<li><a href="#${crate}/${it}"><code>${it}</code></a>`)
+  const list = Object.entries(words[crate] ?? {}).map(([it, [doc]]) => `<li><a href="#${crate}/${it}"><code>${it}</code></a> ${doc}`)
   by('word').innerHTML = `<h2>${crate}</h2><ul>${list.join('')}</ul>`
 }
 
@@ -109,7 +111,7 @@ document.addEventListener('click', (event) => {
 })
 document.addEventListener('keydown', (event) => {
   const box = event.target.closest('.def'), in_search = event.target.closest('#search'), step = { ArrowDown: 1, ArrowUp: -1 }[event.key]
-  if (event.key == 'Escape' && in_search) by('hits').replaceChildren()
+  if (event.key == 'Escape' && in_search) event.target == by('query') ? by('hits').replaceChildren() : by('query').focus()
   else if (event.key == 'Escape' && (box || event.target.box?.isConnected)) shut(box ?? event.target.box)
   if (event.key == '/' && !event.target.matches('input')) { event.preventDefault(); by('query').focus() }
   if (event.key == 'Enter' && event.target == by('query')) by('hits').querySelector('a')?.click()
@@ -118,6 +120,7 @@ document.addEventListener('keydown', (event) => {
   event.preventDefault()
   rows[rows.indexOf(event.target) + step]?.focus()
 })
+document.addEventListener('focusin', (event) => event.target.closest('#search') || by('hits').replaceChildren())
 by('query').addEventListener('focus', () => load('search.js').then(find))
 by('query').addEventListener('input', find)
 link_words(document)
