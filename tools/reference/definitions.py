@@ -148,8 +148,8 @@ class Module(Names):
         self.dotted, self.place = dotted, f"{crate}/specs/{dotted.replace('.', '/')}.antt"
         self.read(text)
         for it in [it for it in self.own.values() if re.match(r".*\bdata\b", it.text)]:
-            names = " ".join(re.findall(r"^  ([^:(){}]+?) :", it.text, re.M)).split()
-            self.own = dict.fromkeys(names, it) | self.own
+            constructors = " ".join(re.findall(r"^  ([^:(){}]+?) :", it.text, re.M)).split()
+            self.own = dict.fromkeys(constructors, it) | self.own
 
     def read(self, text):
         """Reads the definitions, each with the comment above it; of a proof only the statement."""
@@ -168,8 +168,8 @@ class Module(Names):
                 if block := BLOCK.match(bare):
                     around[at], current = block, None
                 elif new := NEW.match(bare):
-                    current, margin = self.define(new, around.values()), at
-                    current.doc = " ".join(comment) or above.get(new[2], "")
+                    doc = " ".join(comment) or above.get(new[2], "")
+                    current, margin = self.define(new, doc, around.values()), at
                 elif KEYWORD.match(bare) and self.crate in CRATES:
                     row = text.split("\n").index(line) + 1
                     FAULTS.append(f"crates/{self.place}:{row}: is no definition that can be read")
@@ -179,12 +179,12 @@ class Module(Names):
                     current = None
                 comment = []
 
-    def define(self, new, around):
+    def define(self, new, doc, around):
         """A definition, or a proof, by its first line and the blocks around it."""
         is_proof = not re.search(r"abbrev|unfoldable|data|record", new[1])
         kind = "proof" if is_proof and all(it["module"] for it in around) else "definition"
         context = " ".join(it["parameters"].strip() for it in around if it["parameters"])
-        self.own[new[2]] = Definition(f"{self.dotted}.{new[2]}", kind, "", new.string, self,
+        self.own[new[2]] = Definition(f"{self.dotted}.{new[2]}", kind, doc, new.string, self,
                                       self.place, context)
         return self.own[new[2]]
 

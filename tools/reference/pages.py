@@ -119,7 +119,8 @@ class Site:
                    for name, it in exports(module).items() if isinstance(it, Source))
         claims = (a(row_of(it), inline(it.text)) for it in self.project.rows
                   if module.name() == it.crate)
-        body = [f"<h1>{module.name()}</h1>", markdown(module.doc, link), listed(claims, "Claims"),
+        body = [f"<h1>{module.name()}</h1>", markdown(module.doc, link),
+                listed(claims, "Claims", " class=claims"),
                 f"<p class=meta>Of the crate: {notes}</p>" if notes else "",
                 listed(modules, "Modules"), listed(map(row, passed), "Re-exports"),
                 listed(map(row, tops[1:] and tops), "Items"),
@@ -154,9 +155,8 @@ class Site:
 
     def contract(self, item):
         """The claims that cite a function, and its clauses."""
-        cited = ((it, ", ".join(names)) for it, names in self.project.claims[item].items())
-        rows = (f"{inline(it.text)} <span class=kind>{a(row_of(it), said or 'claim')}</span>"
-                for it, said in cited)
+        rows = (f"{a(row_of(it), inline(it.text))} <span class=kind>{', '.join(names)}</span>"
+                for it, names in self.project.claims[item].items())
         parts, known, scope = [listed(rows, kind=" class=claims")], set(), Scope(item)
         hidden = binders(" ".join(it.text for it in item.clauses)) | {"result", "self", ""}
         arguments = re.findall(r"(\w+):(?!:)", item.head.partition("(")[2])

@@ -75,14 +75,19 @@ function find() {
   const rank = (it) => {
     const short = short_of(it), kind = it[1]
     const near = [short == whole, short == last, is_named(short), short.startsWith(whole), kind == 'claim', short.startsWith(last), short.includes(last), true]
-    return near.indexOf(true) + (['definition', 'ghost'].includes(kind) ? 0.5 : 0) + (/_tests\b|^contracts_/.test(it[2]) ? 0.6 : 0)
+    const is_inner = ['definition', 'ghost'].includes(kind), is_test = /_tests\b|^contracts_/.test(it[2])
+    return near.indexOf(true) + (is_inner ? 0.5 : 0) + (is_test ? 0.6 : 0)
   }
+  const scored = names.map((it) => {
+    const said = `${it[2]} ${it[0]} ${it[4]}`.toLowerCase()
+    return { it, is_sought: is_named(short_of(it)), words: asked.filter((word) => said.includes(word)).length }
+  })
   // What has all words, or else most of them, or all but one, or a name that is of these words.
-  const words_in = (it, said = `${it[2]} ${it[0]} ${it[4]}`.toLowerCase()) => asked.filter((word) => said.includes(word)).length
-  const most = names.reduce((most, it) => Math.max(most, words_in(it)), 1)
-  const hits = asked.length ? names.filter((it) => words_in(it) >= Math.max(most - 1, 1) || is_named(short_of(it))) : []
-  hits.sort((a, b) => is_named(short_of(b)) - is_named(short_of(a)) || words_in(b) - words_in(a) || rank(a) - rank(b))
-  by('hits').replaceChildren(...hits.slice(0, 30).map(([name, kind, module, href, said]) => {
+  const least = Math.max(...scored.map((hit) => hit.words)) - 1
+  const hits = scored.filter((hit) => hit.is_sought || hit.words >= Math.max(least, 1))
+  const order = (hit) => rank(hit.it) - 10 * hit.words - (hit.is_sought ? 100 : 0)
+  hits.sort((a, b) => order(a) - order(b))
+  by('hits').replaceChildren(...hits.slice(0, 30).map(({ it: [name, kind, module, href, said] }) => {
     const row = make('li', { innerHTML: '<a><b></b> <span class=kind></span><br><span></span></a>' })
     row.firstChild.href = href
     row.querySelector('b').textContent = name
