@@ -5,3 +5,4 @@ pub mod Ranges
 pub mod Refined
 pub mod Shared
 pub mod Tokens
+pub mod TokenRanges

@@ -7,4 +7,5 @@ pub mod changes;
 pub mod fields;
 pub mod files;
 pub mod hunks;
+pub mod positions;
 pub mod words;
