@@ -2,5 +2,6 @@
 //! libraries are edits of their bodies.
 #![tactic(auto)]
 
+pub mod acyclic;
 pub mod dag;
 pub mod walks;
