@@ -5,6 +5,7 @@ pub mod Unquoting
 pub mod Tails
 pub mod Continued
 pub mod Steps
+pub mod Reading
 pub mod Appended
 pub mod Again
 pub mod AgainBlobs
