@@ -1,6 +1,6 @@
 -- Ranges of a byte string, and the left parts of hunks.
--- Cited by contracts of public items: IsContiguous, left_parts, parts_at, Covers, IsLineAt, IsWordAt,
--- Ascends, HasIndex, byte_range.
+-- Cited by contracts of public items: IsContiguous, left_parts, parts_at, Covers, IsLineAt,
+-- IsWordAt, Ascends, HasIndex, byte_range.
 use Rattle.std.specs.Prelude.{◌≡◌, ◌≢◌, ◌⊎◌, ℕ, ◌+◌, ◌-◌, ◌<◌, ◌≤◌, true, false, List, [], ◌∷◌, length, map, slice_index}
 use Rattle.std.specs.List.{slice_index_or, slice_range}
 use Rattle.std.specs.declared.ops.Range.{Range}

@@ -74,7 +74,7 @@ whole_side i (g ∷ hunks) (suc n) h lt e =
     ∙ sym (append_assoc (get_or (row_of g) i []) (side i (map row_of (take n hunks)))
     (get_or (row_of h) i [] ++ side i (map row_of (drop (suc n) hunks))))
 
--- what is between two parts
+-- the part between two others
 between : (xs ys zs : List ℕ) (end : ℕ) → end ≡ length xs + length ys
     → slice_range (xs ++ (ys ++ zs)) (length xs) end ≡ ys
 between xs ys zs end e =
@@ -116,7 +116,7 @@ module _ (base other : List ℕ) (hunks : List DiffHunk) (n at_base at_other : �
   pub end_within : (i : ℕ) → i < 2 → hunk_start i hunks (n + 1) ≤ length (get_or (base ∷ other ∷ []) i [])
   end_within i i2 = omega (arith, end_of i, within_more i n hunks h lt here, ap length (at.compared.diff.sides i i2))
 
-  -- what matches is equal
+  -- matching parts are equal
   module _ (u v : ℕ) (start : hunk_start 0 hunks n ≤ u) (le : u ≤ v) (end : v ≤ hunk_start 0 hunks (n + 1)) where
     abbrev from : ℕ
     from = u - hunk_start 0 hunks n
@@ -186,7 +186,7 @@ module _ (base other : List ℕ) (hunks : List DiffHunk) (n at_base at_other : �
       → matched_offset hunks n offset ≤ length other
   matched_within offset start end = omega (arith, start, end, same_len, end_within 1 (omega arith))
 
--- what is behind is before a later offset
+-- an offset that is behind is before a later one
 pub behind_le : (hunks : List DiffHunk) (n x k offset : ℕ) → IsBehind hunks n x k → k ≤ offset → hunk_start 0 hunks n ≤ offset
     → x ≤ matched_offset hunks n offset
 behind_le hunks n x k offset (inl b) le start = omega (arith, b.0)
@@ -408,7 +408,7 @@ module _ (l b r : List ℕ) (ls rs : List DiffHunk) (p q : ℕ) (rows : List (Li
       none = λ k after past lm rm. past_end k after past;
     }
 
--- what is behind a hunk is behind the next
+-- offsets behind a hunk are behind the next
 behind_next : (base other : List ℕ) (hunks : List DiffHunk) (n at_base at_other x k : ℕ) → IsAt base other hunks n at_base at_other
     → IsBehind hunks n x k → IsBehind hunks (n + 1) x k
 behind_next base other hunks n at_base at_other x k at (inl b) =

@@ -21,7 +21,7 @@ struct Comparison<'a> {
     other: usize,
 }
 
-// Returns the offset `len` bytes after `start`, which is in the text.
+// Returns the offset `len` bytes after `start`.
 fn offset_after(text: &[u8], start: usize, len: usize) -> usize
     requires { start + len ≤ length text.now }
     ensures { result ≡ start + len }
@@ -309,9 +309,9 @@ fn finish<'a>(
     Ok(splitter.rows)
 }
 
-/// Returns the rows of a three-way merge, in whole lines. A row has equal lines of all three, or
-/// what is between such rows: lines of the base that match in comparisons with both sides are in
-/// rows of equal lines. Linear but for the comparisons.
+/// Returns the rows of a three-way merge, in whole lines. A row has equal lines of all three, or is
+/// between such rows: lines of the base that match in comparisons with both sides are in rows of
+/// equal lines. Linear but for the comparisons.
 pub fn split_by_comparisons<'a>(
     alloc: Global,
     left: &'a [u8],
