@@ -7,7 +7,8 @@ use Rattle.jj_diff.specs.Inputs.{side}
 use Rattle.jj_diff.specs.Hunks.{row_of, IsDiff}
 use Rattle.jj_diff.specs.declared.diff.hunks.DiffHunk.{DiffHunk}
 use Rattle.jj_diff_presentation.specs.Lines.{split_lines}
-use Rattle.jj_diff_presentation.specs.Scripts.{lines_of_parts}
+use Rattle.jj_diff_presentation.specs.Scripts.{lines_of_kind, lines_of_parts, script_of}
+use Rattle.jj_diff_presentation.specs.declared.unified.script.DiffLineType.{DiffLineType}
 use Rattle.jj_diff_presentation.proofs.Scripts.{match_at}
 use Rattle.jj_diff_presentation.proofs.LineLaws.{split-append, terminated_at_end, split_empty}
 
@@ -28,12 +29,33 @@ part_pushed i hunks k h before after total lt e pushed inv =
     ∙ ap (λ r. before ++ r) (sym step)
     ∙ inv
 
+abbrev lines_of_hunk : DiffHunk → List (DiffLineType × List ℕ)
+lines_of_hunk h = lines_of_kind h.kind (split_lines (get_or (row_of h) 0 [])) (split_lines (get_or (row_of h) 1 []))
+
+pub script_pushed : (hunks : List DiffHunk) (k : ℕ) (h : DiffHunk) (before after total : List (DiffLineType × List ℕ))
+    → k < length hunks → h ≡ get_or hunks k h
+    → after ≡ before ++ lines_of_kind h.kind (split_lines (get_or (row_of h) 0 [])) (split_lines (get_or (row_of h) 1 []))
+    → before ++ script_of (drop k hunks) ≡ total → after ++ script_of (drop (k + 1) hunks) ≡ total
+script_pushed hunks k h before after total lt e pushed inv =
+    let step : script_of (drop k hunks) ≡ lines_of_hunk h ++ script_of (drop (k + 1) hunks)
+    = at_drop_more script_of hunks k h lt
+    ∙ ap (λ g. lines_of_hunk g ++ script_of (drop (k + 1) hunks)) (sym e) in
+    ap (λ r. r ++ script_of (drop (k + 1) hunks)) pushed
+    ∙ append_assoc before (lines_of_hunk h) (script_of (drop (k + 1) hunks))
+    ∙ ap (λ r. before ++ r) (sym step)
+    ∙ inv
+
+pub script_finished : (hunks : List DiffHunk) (k : ℕ) (lines total : List (DiffLineType × List ℕ))
+    → length hunks ≤ k → lines ++ script_of (drop k hunks) ≡ total → lines ≡ total
+script_finished hunks k lines total le inv =
+    sym (ap (λ hs. lines ++ script_of hs) (drop_all k hunks le) ∙ append-nil lines) ∙ inv
+
 pub parts_finished : (i : ℕ) (hunks : List DiffHunk) (k : ℕ) (lines total : List (List ℕ))
     → length hunks ≤ k → lines ++ lines_of_parts i (drop k hunks) ≡ total → lines ≡ total
 parts_finished i hunks k lines total le inv =
     sym (ap (λ hs. lines ++ lines_of_parts i hs) (drop_all k hunks le) ∙ append-nil lines) ∙ inv
 
-pub ruleset part_steps = (part_pushed, parts_finished, match_at)
+pub ruleset part_steps = (part_pushed, parts_finished, script_pushed, script_finished, match_at)
 
 last_of : (x y : List ℕ) → 0 < length x → get_or (x ++ y) (length x - 1) 0 ≡ get_or x (length x - 1) 0
 last_of x y h = get_or_append_left x y 0 (length x - 1) (omega arith)

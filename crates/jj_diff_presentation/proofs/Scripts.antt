@@ -8,7 +8,7 @@ use Rattle.jj_diff.specs.Hunks.{AllMatch}
 use Rattle.jj_diff.specs.declared.diff.hunks.DiffHunk.{DiffHunk}
 use Rattle.jj_diff.specs.declared.diff.hunks.DiffHunkKind.TheVariants.{Matching}
 use Rattle.jj_diff_presentation.specs.Lines.{split_lines}
-use Rattle.jj_diff_presentation.specs.Scripts.{on_left, on_right, left_lines, right_lines, is_context, is_context_type, AreContext}
+use Rattle.jj_diff_presentation.specs.Scripts.{on_left, on_right, left_lines, right_lines, is_context, is_context_type, AreContext, lines_of_type, typed_lines}
 use Rattle.jj_diff_presentation.specs.declared.unified.script.DiffLine.{DiffLine}
 use Rattle.jj_diff_presentation.specs.declared.unified.script.DiffLineType.{DiffLineType}
 use Rattle.jj_diff_presentation.specs.declared.unified.script.DiffLineType.TheVariants.{Context, Removed, Added}
@@ -79,6 +79,27 @@ on_right-nil Context = refl
 on_right-nil Removed = refl
 on_right-nil Added = refl
 
+typed-append : (xs ys : List DiffLine) → typed_lines (xs ++ ys) ≡ typed_lines xs ++ typed_lines ys
+typed-append [] ys = refl
+typed-append (x ∷ xs) ys = ap (λ r. (x.line_type, x.content.now) ∷ r) (typed-append xs ys)
+
+pub typed_pushed : (k : DiffLineType) (xs : List DiffLine) (x : DiffLine) (rest after : List ℕ)
+    (total : List (DiffLineType × List ℕ)) → x.line_type ≡ k
+    → split_lines rest ≡ x.content.now ∷ split_lines after
+    → typed_lines xs ++ lines_of_type k (split_lines rest) ≡ total
+    → typed_lines (xs ++ x ∷ []) ++ lines_of_type k (split_lines after) ≡ total
+typed_pushed k xs x rest after total e split inv =
+    ap (λ r. r ++ lines_of_type k (split_lines after)) (typed-append xs (x ∷ []))
+    ∙ append_assoc (typed_lines xs) ((x.line_type, x.content.now) ∷ []) (lines_of_type k (split_lines after))
+    ∙ ap (λ t. typed_lines xs ++ ((t, x.content.now) ∷ lines_of_type k (split_lines after))) e
+    ∙ ap (λ r. typed_lines xs ++ r) (sym (ap (lines_of_type k) split))
+    ∙ inv
+
+pub typed_finished : (k : DiffLineType) (xs : List DiffLine) (rest : List ℕ) (total : List (DiffLineType × List ℕ))
+    → length rest ≡ 0 → typed_lines xs ++ lines_of_type k (split_lines rest) ≡ total → typed_lines xs ≡ total
+typed_finished k xs rest total h inv =
+    sym (ap (λ r. typed_lines xs ++ lines_of_type k r) (split_empty rest h) ∙ append-nil (typed_lines xs)) ∙ inv
+
 pub left_finished : (k : DiffLineType) (xs : List DiffLine) (rest : List ℕ) (total : List (List ℕ))
     → length rest ≡ 0 → left_lines xs ++ on_left k (split_lines rest) ≡ total → left_lines xs ≡ total
 left_finished k xs rest total h inv =
@@ -112,4 +133,4 @@ equal_sides left right e zero lt = refl
 equal_sides left right e (suc zero) lt = sym e
 equal_sides left right e (suc (suc i)) lt = absurd (omega arith)
 
-pub ruleset script_steps = (left_pushed, right_pushed, left_finished, right_finished, context_pushed)
+pub ruleset script_steps = (left_pushed, right_pushed, left_finished, right_finished, context_pushed, typed_pushed, typed_finished)

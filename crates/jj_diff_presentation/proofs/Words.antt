@@ -1,10 +1,12 @@
 -- Tokens of hunks, and their marks.
-use Rattle.std.proofs.Common.{◌≡◌, ℕ, ◌+◌, ◌<◌, ◌≤◌, List, [], ◌∷◌, ◌++◌, length, map, drop, get_or, refl, sym, ap, ◌∙◌, arith, append_assoc, append-nil}
-use Rattle.std.proofs.lemmas.List.{at_drop_more, drop_all}
+use Rattle.std.proofs.Common.{◌≡◌, ℕ, ◌+◌, ◌<◌, ◌≤◌, List, [], ◌∷◌, ◌++◌, length, map, drop, take, subst, get_or, refl, sym, ap, ◌∙◌, arith, append_assoc, append-nil}
+use Rattle.std.proofs.lemmas.List.{at_drop_more, drop_all, take_all, take_more}
+use Rattle.std.specs.List.{AllZip}
+use Rattle.jj_diff.specs.Tokens.{is_word_end}
 use Rattle.jj_diff.specs.Inputs.{side}
-use Rattle.jj_diff.specs.Hunks.{row_of}
+use Rattle.jj_diff.specs.Hunks.{row_of, AreTrimmed, IsDiff}
 use Rattle.jj_diff.specs.declared.diff.hunks.DiffHunk.{DiffHunk}
-use Rattle.jj_diff_presentation.specs.Words.{left_text, right_text, marked, token_text, tokens_text}
+use Rattle.jj_diff_presentation.specs.Words.{left_text, right_text, AreComparedWords, IsTokenOf, marked, token_text, tokens_text}
 use Rattle.jj_diff_presentation.specs.declared.unified.words.DiffToken.{DiffToken}
 
 left-push : (ts : List DiffToken) (t : DiffToken) → left_text (ts ++ t ∷ []) ≡ left_text ts ++ t.left.now
@@ -56,7 +58,33 @@ pub side_end : (i : ℕ) (hunks : List DiffHunk) (k : ℕ) (text total : List �
 side_end i hunks k text total le inv =
     sym (ap (λ hs. text ++ side i (map row_of hs)) (drop_all k hunks le) ∙ append-nil text) ∙ inv
 
-pub ruleset token_steps = (left_token, right_token, side_end)
+zip_push : (R : DiffHunk → DiffToken → Type 0) (hs : List DiffHunk) (ts : List DiffToken) (h : DiffHunk) (t : DiffToken)
+    → AllZip R hs ts → R h t → AllZip R (hs ++ h ∷ []) (ts ++ t ∷ [])
+zip_push R [] [] h t z r = (r, tt)
+zip_push R [] (u ∷ ts) h t z r = absurd z
+zip_push R (g ∷ hs) [] h t z r = absurd z
+zip_push R (g ∷ hs) (u ∷ ts) h t z r = (z.0, zip_push R hs ts h t z.1 r)
+
+pub each_token : (hunks : List DiffHunk) (k : ℕ) (h : DiffHunk) (ts : List DiffToken) (t : DiffToken)
+    → k < length hunks → h ≡ get_or hunks k h → AllZip IsTokenOf (take k hunks) ts → IsTokenOf h t
+    → AllZip IsTokenOf (take (k + 1) hunks) (ts ++ t ∷ [])
+each_token hunks k h ts t lt e before here =
+    let taken : take (k + 1) hunks ≡ take k hunks ++ h ∷ [] =
+    take_more hunks k h lt ∙ ap (λ x. take k hunks ++ x ∷ []) (sym e) in
+    subst (λ hs. AllZip IsTokenOf hs (ts ++ t ∷ [])) (sym taken)
+    (zip_push IsTokenOf (take k hunks) ts h t before here)
+
+pub each_end : (hunks : List DiffHunk) (k : ℕ) (ts : List DiffToken) → length hunks ≤ k
+    → AllZip IsTokenOf (take k hunks) ts → AllZip IsTokenOf hunks ts
+each_end hunks k ts le each = subst (λ hs. AllZip IsTokenOf hs ts) (take_all k hunks le) each
+
+pub compared_words : (left right : List ℕ) (hunks : List DiffHunk) (tokens : List DiffToken)
+    → IsDiff is_word_end (left ∷ right ∷ []) hunks → AreTrimmed is_word_end hunks → AllZip IsTokenOf hunks tokens
+    → AreComparedWords left right tokens
+compared_words left right hunks tokens diff trimmed each =
+    record { hunks = hunks; diff = diff; trimmed = trimmed; each = each }
+
+pub ruleset token_steps = (left_token, right_token, side_end, each_token, each_end)
 
 -- ---- marks
 

@@ -1,7 +1,12 @@
 -- Differences of words.
--- Cited by contracts of public items: left_text, right_text, IsToken, tokens_text, IsWordDiff.
+-- Cited by contracts of public items: left_text, right_text, AreComparedWords, IsToken,
+-- tokens_text, IsWordDiff.
 use Rattle.std.specs.Prelude.{◌≡◌, ℕ, List, [], ◌∷◌, ◌++◌, codes, All}
-use Rattle.std.specs.List.{concat, AllZip}
+use Rattle.std.specs.List.{concat, slice_index_or, AllZip}
+use Rattle.jj_diff.specs.Tokens.{is_word_end}
+use Rattle.jj_diff.specs.Hunks.{row_of, AreTrimmed, IsDiff}
+use Rattle.jj_diff.specs.declared.diff.hunks.DiffHunk.{DiffHunk}
+use Rattle.jj_diff.specs.declared.diff.hunks.DiffHunkKind.TheVariants.{Matching as HunkMatching, Different as HunkDifferent}
 use Rattle.jj_diff_presentation.specs.Scripts.{left_lines, right_lines}
 use Rattle.jj_diff_presentation.specs.PatchText.{header_text}
 use Rattle.jj_diff_presentation.specs.declared.unified.hunks.UnifiedDiffHunk.{UnifiedDiffHunk}
@@ -22,6 +27,21 @@ right_text (t ∷ ts) = t.right.now ++ right_text ts
 -- the parts of a token that matches are equal
 abbrev pub IsToken : DiffToken → Type 0
 IsToken token = token.token_type ≡ Matching → token.left.now ≡ token.right.now
+
+-- the token has the parts of the hunk, and matches if the hunk does
+pub record IsTokenOf (hunk : DiffHunk) (token : DiffToken) : Type 0 where
+  pub left : token.left.now ≡ slice_index_or (row_of hunk) 0 []
+  pub right : token.right.now ≡ slice_index_or (row_of hunk) 1 []
+  pub matching : hunk.kind ≡ HunkMatching → token.token_type ≡ Matching
+  pub different : hunk.kind ≡ HunkDifferent → token.token_type ≡ Different
+
+-- The tokens are the hunks of a comparison by words: none that differs starts or ends with a word
+-- that is equal on both sides, nor has one that is once on each, of at most 64.
+pub record AreComparedWords (left right : List ℕ) (tokens : List DiffToken) : Type 0 where
+  pub hunks : List DiffHunk
+  pub diff : IsDiff is_word_end (left ∷ right ∷ []) hunks
+  pub trimmed : AreTrimmed is_word_end hunks
+  pub each : AllZip IsTokenOf hunks tokens
 
 -- the string between two marks, or nothing if it is empty
 abbrev pub marked : List ℕ → List ℕ → List ℕ → List ℕ

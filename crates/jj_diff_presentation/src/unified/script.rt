@@ -3,7 +3,7 @@ ghost use Rattle.std.specs.Prelude.{◌≡◌, ◌++◌, [], IfOk, OnOk, slice_i
 ghost use Rattle.std.specs.List.{slice_index_or};
 ghost use Rattle.jj_diff.specs.Hunks.{AllMatch, IsHunk, row_of};
 ghost use Rattle.jj_diff_presentation.specs.Lines.{split_lines};
-ghost use Rattle.jj_diff_presentation.specs.Scripts.{left_lines, right_lines, on_left, on_right, is_context, AreContext, lines_of_parts};
+ghost use Rattle.jj_diff_presentation.specs.Scripts.{left_lines, right_lines, on_left, on_right, is_context, AreComparedLines, AreContext, lines_of_kind, lines_of_parts, lines_of_type, script_of, typed_lines};
 
 use crate::lines::split_first_line;
 use jj_diff::diff::{DiffHunk, DiffHunkKind, diff_by_line};
@@ -52,6 +52,8 @@ fn push_lines<'a>(
         ≡ right_lines lines.old.items ++ on_right line_type (split_lines text.now)) }
     ensures context { OnOk result (line_type ≡ DiffLineType.Context
         → AreContext lines.old.items → AreContext lines.new.items) }
+    ensures typed { OnOk result (typed_lines lines.new.items
+        ≡ typed_lines lines.old.items ++ lines_of_type line_type (split_lines text.now)) }
 {
     let mut rest = text;
     while !rest.is_empty() {
@@ -74,14 +76,21 @@ fn push_hunk<'a>(lines: &mut Vec<DiffLine<'a>>, hunk: &DiffHunk<'a>) -> Result<(
         ≡ right_lines lines.old.items ++ split_lines (slice_index_or (row_of hunk.now) 1 [])) }
     ensures context { OnOk result (hunk.now.kind ≡ DiffHunkKind.Matching
         → AreContext lines.old.items → AreContext lines.new.items) }
+    ensures typed { OnOk result (typed_lines lines.new.items ≡ typed_lines lines.old.items
+        ++ lines_of_kind hunk.now.kind (split_lines (slice_index_or (row_of hunk.now) 0 []))
+        (split_lines (slice_index_or (row_of hunk.now) 1 []))) }
 {
     let left = hunk.contents[0];
     let right = hunk.contents[1];
     match hunk.kind {
-        DiffHunkKind::Matching => push_lines(lines, DiffLineType::Context, left),
+        DiffHunkKind::Matching => {
+            push_lines(lines, DiffLineType::Context, left)?;
+            Ok(())
+        }
         DiffHunkKind::Different => {
             push_lines(lines, DiffLineType::Removed, left)?;
-            push_lines(lines, DiffLineType::Added, right)
+            push_lines(lines, DiffLineType::Added, right)?;
+            Ok(())
         }
     }
 }
@@ -96,6 +105,7 @@ fn lines_of_hunks<'a>(
     ensures left { IfOk result (λ lines. left_lines lines.items ≡ lines_of_parts 0 hunks.now) }
     ensures right { IfOk result (λ lines. right_lines lines.items ≡ lines_of_parts 1 hunks.now) }
     ensures context { IfOk result (λ lines. AllMatch hunks.now → AreContext lines.items) }
+    ensures typed { IfOk result (λ lines. typed_lines lines.items ≡ script_of hunks.now) }
 {
     let mut lines = Vec::new(alloc);
     for hunk in hunks {
@@ -116,6 +126,10 @@ pub fn diff_lines<'a>(
     ensures right { IfOk result (λ lines. right_lines lines.items ≡ split_lines right.now) }
     // Equal sides have no removed and no added lines.
     ensures context { IfOk result (λ lines. left.now ≡ right.now → AreContext lines.items) }
+    // The lines are those of a comparison: lines that both sides start with, or end with, are
+    // context, and of at most 64 changed lines none is once on each side.
+    ensures compared { IfOk result
+        (λ lines. AreComparedLines left.now right.now lines.items) }
 {
     let hunks = diff_by_line(alloc, &[left, right], 0)?;
     let lines = lines_of_hunks(alloc, &hunks)?;

@@ -1,9 +1,9 @@
 //! Differences of words, for terminals.
 ghost use Rattle.std.specs.Prelude.{◌≡◌, ◌++◌, [], map, All, IfOk, OnOk};
-ghost use Rattle.std.specs.List.{slice_index_or};
+ghost use Rattle.std.specs.List.{slice_index_or, AllZip};
 ghost use Rattle.jj_diff.specs.Inputs.{side};
 ghost use Rattle.jj_diff.specs.Hunks.{IsHunk, row_of};
-ghost use Rattle.jj_diff_presentation.specs.Words.{left_text, right_text, IsToken, marked, token_text, tokens_text};
+ghost use Rattle.jj_diff_presentation.specs.Words.{left_text, right_text, AreComparedWords, IsToken, IsTokenOf, marked, token_text, tokens_text};
 
 use jj_diff::diff::{DiffHunk, DiffHunkKind, diff};
 use std::alloc::{AllocError, Global};
@@ -28,6 +28,7 @@ fn token_of_hunk<'a>(hunk: &DiffHunk<'a>) -> DiffToken<'a>
     ensures left { result.left.now ≡ slice_index_or (row_of hunk.now) 0 [] }
     ensures right { result.right.now ≡ slice_index_or (row_of hunk.now) 1 [] }
     ensures matching { IsToken result }
+    ensures token { IsTokenOf hunk.now result }
 {
     let left = hunk.contents[0];
     let right = hunk.contents[1];
@@ -56,6 +57,7 @@ fn tokens_of_hunks<'a>(
     ensures right { IfOk result
         (λ tokens. right_text tokens.items ≡ side 1 (map row_of hunks.now)) }
     ensures matching { IfOk result (λ tokens. All IsToken tokens.items) }
+    ensures each { IfOk result (λ tokens. AllZip IsTokenOf hunks.now tokens.items) }
 {
     let mut tokens = Vec::new(alloc);
     for hunk in hunks {
@@ -76,6 +78,10 @@ pub fn word_diff<'a>(
     ensures right { IfOk result (λ tokens. right_text tokens.items ≡ right.now) }
     // The parts of a token that matches are equal.
     ensures matching { IfOk result (λ tokens. All IsToken tokens.items) }
+    // The tokens are the hunks of a comparison: no token that differs starts or ends with a word
+    // that is equal on both sides, nor has one that is once on each, of at most 64.
+    ensures compared { IfOk result
+        (λ tokens. AreComparedWords left.now right.now tokens.items) }
 {
     let hunks = diff(alloc, &[left, right])?;
     let tokens = tokens_of_hunks(alloc, &hunks)?;

@@ -1,8 +1,9 @@
-use Rattle.std.proofs.Common.{◌≡◌, ◌++◌, map, drop}
+use Rattle.std.proofs.Common.{◌≡◌, ◌++◌, map, drop, take}
 use Rattle.std.specs.Prelude.{All}
+use Rattle.std.specs.List.{AllZip}
 use Rattle.jj_diff.specs.Inputs.{side}
 use Rattle.jj_diff.specs.Hunks.{row_of}
-use Rattle.jj_diff_presentation.specs.Words.{left_text, right_text, IsToken}
+use Rattle.jj_diff_presentation.specs.Words.{left_text, right_text, IsToken, IsTokenOf}
 use Rattle.jj_diff_presentation.proofs.unified.words.tokens_of_hunks.Given as goal
 
 abbrev pub invariant-loop-hunk : goal.invariant-loop-hunk
@@ -12,4 +13,5 @@ invariant-loop-hunk l = record {
   right : right_text l.tokens.items ++ side 1 (map row_of (drop l.hunk-index l.hunks))
       ≡ side 1 (map row_of l.hunks);
   matching : All IsToken l.tokens.items;
+  each : AllZip IsTokenOf (take l.hunk-index l.hunks) l.tokens.items;
 }
