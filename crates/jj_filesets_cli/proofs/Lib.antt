@@ -1,1 +1,2 @@
 mod NextWord
+mod PrintedLists

@@ -164,7 +164,7 @@ fn place_at(alloc: Global, expression: &[u8], at: usize) -> Result<String, Alloc
 // Selects the lines of the source that are in the set of an expression. Nothing is read or written
 // if there is no such set, or if memory runs out before. Else the filter is run; status and line
 // are those of how the run ended.
-fn select<R: Source, W: Sink, E: Sink>(
+pub(crate) fn select<R: Source, W: Sink, E: Sink>(
     alloc: Global,
     line: CommandLine,
     expression: &str,
