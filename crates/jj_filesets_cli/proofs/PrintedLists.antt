@@ -18,7 +18,7 @@ use Rattle.jj_filesets_cli.specs.declared.outcome.Outcome.{Outcome}
 abbrev plain : ListOptions
 plain = record { nul = false; skips_invalid = false }
 
--- the expression was refused
+-- the expression has a fault
 pub refused : (expression list output : List ℕ) (status : ℕ) → output ≡ [] → (error : CommandError) → IsRefusedBy expression error
     → status ≡ command_error_status error → IsPrinted expression list status output
 refused expression list output status empty NoMemory by is = inr (inr is)
