@@ -309,9 +309,9 @@ fn finish<'a>(
     Ok(splitter.rows)
 }
 
-/// Returns the rows of a three-way merge, in whole lines. A row has equal lines of all three, or is
-/// between such rows: lines of the base that match in comparisons with both sides are in rows of
-/// equal lines. Linear but for the comparisons.
+/// Returns the rows of a three-way merge, in whole lines. A row resolves, as equal lines do, or it
+/// has no line of the base that matches in comparisons with both sides. Linear but for the
+/// comparisons.
 pub fn split_by_comparisons<'a>(
     alloc: Global,
     left: &'a [u8],
