@@ -5,9 +5,9 @@ use Rattle.std.proofs.lemmas.Grind.{common_steps, elements}
 use Rattle.jj_diff.specs.declared.diff.hunks.DiffHunk.{DiffHunk}
 use Rattle.jj_diff.specs.Tokens.{is_line_end, IsCut, TokenEnds}
 use Rattle.jj_diff.specs.Ends.{IsCommonStart, IsCommonEnd, suffix}
-use Rattle.jj_diff.specs.Hunks.{matched_start, matched_end, MatchesEnds, AreTrimmed}
-use Rattle.jj_diff.specs.Anchors.{token_offsets, StandsOnce, HasFewTokens, IsCommonToken}
-use Rattle.contracts_diffs.specs.Lines.{EndsInLine, StartsApart, EndsApart, HasFewLines, SharesNoLine}
+use Rattle.jj_diff.specs.Hunks.{matched_start, matched_end, MatchesEnds, AreTrimmed, AreTrimmedBy}
+use Rattle.jj_diff.specs.Anchors.{token_offsets, StandsOnceBy, HasFewTokens, IsCommonTokenBy}
+use Rattle.contracts_diffs.specs.Lines.{EndsInLine, StartsApart, EndsApart, HasFewLines, SharesNoLine, SharesNoLineBy}
 
 last_of : (xs ys : List ℕ) (n : ℕ) → n ≡ length xs → 0 < n → get_or xs (length xs - 1) 0 ≡ 10 → get_or (xs ++ ys) (n - 1) 0 ≡ 10
 last_of xs ys n e lt last = grind (arith, common_steps, elements)
@@ -106,23 +106,27 @@ ends_apart hs trimmed k d lt = λ kind xs ys line ends_xs ends_ys e. no_line lin
     (subst (λ row. IsCommonEnd is_line_end row 0 (length line)) (sym e)
     (common_end (xs ++ line) (ys ++ line) 0 xs ys line ends_xs ends_ys refl refl (omega arith) (omega arith))))
 
--- a line that both of two versions have once
-common_line : (left right line : List ℕ) → StandsOnce is_line_end left line → StandsOnce is_line_end right line
-    → IsCommonToken is_line_end (left ∷ right ∷ []) line
-common_line left right line once again = record {
+-- a line that both of two versions have once under a comparison
+common_line : (form : List ℕ → List ℕ) (left right line : List ℕ) → StandsOnceBy form is_line_end left line
+    → StandsOnceBy form is_line_end right line → IsCommonTokenBy form is_line_end (left ∷ right ∷ []) line
+common_line form left right line once again = record {
   some = lit< tt;
-  once = both (λ i. StandsOnce is_line_end (get_or (left ∷ right ∷ []) i []) line) once again;
+  once = both (λ i. StandsOnceBy form is_line_end (get_or (left ∷ right ∷ []) i []) line) once again;
 }
 
 few_lines : (left right : List ℕ) → HasFewLines left → HasFewLines right → HasFewTokens is_line_end (left ∷ right ∷ [])
 few_lines left right few more =
     both (λ i. length (token_offsets is_line_end (get_or (left ∷ right ∷ []) i [])) ≤ 65) (omega (arith, few)) (omega (arith, more))
 
-pub shares_no_line : (hs : List DiffHunk) → AreTrimmed is_line_end hs → All SharesNoLine hs
-shares_no_line hs trimmed k d lt = λ kind left right line e few more once again.
+pub shares_no_line_by : (form : List ℕ → List ℕ) (hs : List DiffHunk) → AreTrimmedBy form is_line_end hs
+    → All (SharesNoLineBy form) hs
+shares_no_line_by form hs trimmed k d lt = λ kind left right line e few more once again.
     (trimmed k d lt kind).once
     (subst (HasFewTokens is_line_end) (sym e) (few_lines left right few more)) line
-    (subst (λ row. IsCommonToken is_line_end row line) (sym e) (common_line left right line once again))
+    (subst (λ row. IsCommonTokenBy form is_line_end row line) (sym e) (common_line form left right line once again))
+
+pub shares_no_line : (hs : List DiffHunk) → AreTrimmed is_line_end hs → All SharesNoLine hs
+shares_no_line = shares_no_line_by (λ text. text)
 
 pub ruleset apart_steps = (starts_apart, ends_apart, shares_no_line)
 

@@ -1,13 +1,13 @@
 -- Whole lines of byte strings, and hunks of two versions.
--- Cited by contracts of public items: EndsInLine, StartsApart, EndsApart, SharesNoLine, KeepsLines,
--- HasEqualParts, HasBytes, AreWholeLines.
+-- Cited by contracts of public items: EndsInLine, StartsApart, EndsApart, SharesNoLine,
+-- SharesNoLineBy, KeepsLines, HasEqualParts, HasBytes, AreWholeLines.
 use Rattle.std.specs.Prelude.{◌≡◌, ◌⊎◌, ℕ, ◌-◌, ◌<◌, ◌≤◌, ◌++◌, List, [], ◌∷◌, length, map, filter, All, Any, slice_index}
 use Rattle.std.specs.List.{range_with_len, slice_index_or}
 use Rattle.jj_diff.specs.declared.diff.hunks.DiffHunk.{DiffHunk}
 use Rattle.jj_diff.specs.declared.diff.hunks.DiffHunkKind.TheVariants.{Matching, Different}
 use Rattle.jj_diff.specs.Inputs.{side}
 use Rattle.jj_diff.specs.Tokens.{is_line_end}
-use Rattle.jj_diff.specs.Anchors.{StandsAt, StandsOnce, token_offsets}
+use Rattle.jj_diff.specs.Anchors.{StandsAt, StandsOnce, StandsOnceBy, token_offsets}
 use Rattle.jj_diff.specs.Hunks.{row_of}
 
 -- nothing, or a byte string that ends in LF
@@ -28,12 +28,17 @@ EndsApart hunk = hunk.kind ≡ Different → (xs ys line : List ℕ) → EndsInL
 abbrev pub HasFewLines : List ℕ → Type 0
 HasFewLines text = length (filter (is_line_end text) (range_with_len 1 (length text))) ≤ 64
 
+-- a hunk that differs; if each of its two parts has at most 64 lines, then there is no canonical
+-- form of which both have exactly one line
+abbrev pub SharesNoLineBy : (List ℕ → List ℕ) → DiffHunk → Type 0
+SharesNoLineBy form hunk = hunk.kind ≡ Different → (left right line : List ℕ)
+    → row_of hunk ≡ left ∷ right ∷ [] → HasFewLines left → HasFewLines right
+    → StandsOnceBy form is_line_end left line → ¬ (StandsOnceBy form is_line_end right line)
+
 -- a hunk that differs, and no line of which is exactly once in both of its parts, if each part has
 -- at most 64 lines
 abbrev pub SharesNoLine : DiffHunk → Type 0
-SharesNoLine hunk = hunk.kind ≡ Different → (left right line : List ℕ)
-    → row_of hunk ≡ left ∷ right ∷ [] → HasFewLines left → HasFewLines right
-    → StandsOnce is_line_end left line → ¬ (StandsOnce is_line_end right line)
+SharesNoLine = SharesNoLineBy (λ text. text)
 
 -- part i of the hunk
 abbrev pub part_of : ℕ → DiffHunk → List ℕ

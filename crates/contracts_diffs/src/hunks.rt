@@ -4,7 +4,7 @@ ghost use Rattle.jj_diff.specs.declared.diff.hunks.DiffHunkKind.TheVariants.{Mat
 ghost use Rattle.jj_diff.specs.Inputs.{side};
 ghost use Rattle.jj_diff.specs.Hunks.{row_of, AllMatch, Alternate};
 ghost use Rattle.jj_diff.specs.Whitespace.{without_whitespace};
-ghost use Rattle.contracts_diffs.specs.Lines.{AreWholeLines, HasBytes, HasEqualParts};
+ghost use Rattle.contracts_diffs.specs.Lines.{AreWholeLines, HasBytes, HasEqualParts, SharesNoLineBy};
 
 use jj_diff::diff::{CompareBytesIgnoreAllWhitespace, ContentDiff, DiffHunk, Lines, diff_by_line};
 use std::alloc::{AllocError, Global};
@@ -63,6 +63,9 @@ pub fn compare_without_whitespace<'a>(
     // The two parts of a hunk that matches are equal but for white space.
     ensures matching { IfOk result
         (λ d. All (HasEqualParts without_whitespace) d.hunks.items) }
+    // If a hunk that differs has at most 64 lines of each version, then no line is exactly once in
+    // both versions of it, but for white space.
+    ensures lines { IfOk result (λ d. All (SharesNoLineBy without_whitespace) d.hunks.items) }
     // Versions that are equal but for white space have no hunk that differs.
     ensures identity { IfOk result
         (λ d. without_whitespace left.now ≡ without_whitespace right.now

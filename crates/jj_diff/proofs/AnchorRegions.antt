@@ -9,9 +9,9 @@ use Rattle.jj_diff.specs.Tokenizers.{length_range}
 use Rattle.jj_diff.proofs.Slices.{range_of_range}
 
 -- A gap between `at` and `starts`, its row, and an anchor in the row.
-module _ (t : TokenEnds) (inputs row : List (List ℕ)) (at starts gap_starts gap_ends from to : List ℕ)
+module _ (form : List ℕ → List ℕ) (t : TokenEnds) (inputs row : List (List ℕ)) (at starts gap_starts gap_ends from to : List ℕ)
     (gap : IsTrimmedGap t inputs at starts gap_starts gap_ends) (is_row : AreParts inputs gap_starts gap_ends row)
-    (anchor : IsAnchor t row from to) where
+    (anchor : IsAnchor form t row from to) where
   part_len : (i : ℕ) → i < length inputs → length (get_or row i []) + get_or gap_starts i 0 ≡ get_or gap_ends i 0
   part_len i lt = omega (
     arith,
@@ -63,8 +63,8 @@ module _ (t : TokenEnds) (inputs row : List (List ℕ)) (at starts gap_starts ga
         subst (IsCut t (get_or inputs i [])) (sym (first_sums.sums_of i lt))
         (cut_at law (get_or from i 0) i lt (omega (arith, anchor.ranges.ordered i mt, anchor.ranges.within i mt)) (anchor.start_cuts i mt))
 
-    pub anchor_match : IsTokenizer t → (form : List ℕ → List ℕ) → IsMatch form t inputs first last
-    anchor_match law form = record {
+    pub anchor_match : IsTokenizer t → IsMatch form t inputs first last
+    anchor_match law = record {
       ranges = record {
         starts_len = first_sums.len;
         ends_len = last_sums.len;
@@ -76,7 +76,7 @@ module _ (t : TokenEnds) (inputs row : List (List ℕ)) (at starts gap_starts ga
           subst (IsCut t (get_or inputs i [])) (sym (last_sums.sums_of i lt)) (cut_at law (get_or to i 0) i lt (anchor.ranges.within i mt) (anchor.end_cuts i mt));
       equal = λ i lt.
           let some : 0 < length inputs = omega arith in
-          ap form (part_at i lt ∙ anchor.equal i (omega (arith, is_row.len)) ∙ sym (part_at 0 some));
+          ap form (part_at i lt) ∙ anchor.equal i (omega (arith, is_row.len)) ∙ ap form (sym (part_at 0 some));
     }
 
     pub anchor_longer : 0 < length inputs → get_or first 0 0 < get_or last 0 0

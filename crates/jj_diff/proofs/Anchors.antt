@@ -7,7 +7,7 @@ use Rattle.std.specs.Global.{Global}
 use Rattle.std.specs.declared.vec.Vec.{Vec}
 use Rattle.jj_diff.specs.Tokens.{IsCut, TokenEnds}
 use Rattle.jj_diff.specs.Inputs.{bytes_of}
-use Rattle.jj_diff.specs.Anchors.{token_offsets, token_at, StandsAt, StandsOnceAmong, StandsOnceInEach, HasFewTokens, IsCommonToken, AreOffsets, AreRowOffsets, AreTokenOffsets, AreFew, AreTokenRanges, IsTokenRange, IsAnchor, lists_of}
+use Rattle.jj_diff.specs.Anchors.{token_offsets, token_at, StandsAtBy, StandsOnceAmong, StandsOnceInEach, HasFewTokens, IsCommonTokenBy, AreOffsets, AreRowOffsets, AreTokenOffsets, AreFew, AreTokenRanges, IsTokenRange, IsAnchor, lists_of}
 use Rattle.jj_diff.proofs.Rows.{none, none_at, length-bytes_of}
 
 -- the numbers of a range that pass
@@ -85,21 +85,21 @@ row_offsets t row offsets tokens = record {
 }
 
 -- A search for one token, from the start and from the first hit on.
-module _ (text offsets token : List ℕ) (first : ℕ) where
-  pub once_none : first + 1 ≡ length offsets → ((j : ℕ) → 0 ≤ j → j < first → ¬ (token_at text offsets j ≡ token))
-      → ¬ (StandsOnceAmong text offsets token)
+module _ (form : List ℕ → List ℕ) (text offsets token : List ℕ) (first : ℕ) where
+  pub once_none : first + 1 ≡ length offsets → ((j : ℕ) → 0 ≤ j → j < first → ¬ (form (token_at text offsets j) ≡ token))
+      → ¬ (StandsOnceAmong form text offsets token)
   once_none e before once = before once.0 (omega arith) (omega (arith, once.1.0)) once.1.1
 
-  pub once_found : ((j : ℕ) → 0 ≤ j → j < first → ¬ (token_at text offsets j ≡ token)) → StandsOnceAmong text offsets token
+  pub once_found : ((j : ℕ) → 0 ≤ j → j < first → ¬ (form (token_at text offsets j) ≡ token)) → StandsOnceAmong form text offsets token
       → first < length offsets → first + 1 < length offsets
   once_found before once lt = elim (cases_lt (first + 1) (length offsets)) [
     | inl mt ↦ mt
     | inr le ↦ absurd (before once.0 (omega arith) (omega (arith, once.1.0)) once.1.1)
   ]
 
-  pub once_one : (second : ℕ) → first + 1 < length offsets → token_at text offsets first ≡ token
-      → ((j : ℕ) → 0 ≤ j → j < first → ¬ (token_at text offsets j ≡ token)) → second + 1 ≡ length offsets
-      → ((j : ℕ) → first + 1 ≤ j → j < second → ¬ (token_at text offsets j ≡ token)) → StandsOnceAmong text offsets token
+  pub once_one : (second : ℕ) → first + 1 < length offsets → form (token_at text offsets first) ≡ token
+      → ((j : ℕ) → 0 ≤ j → j < first → ¬ (form (token_at text offsets j) ≡ token)) → second + 1 ≡ length offsets
+      → ((j : ℕ) → first + 1 ≤ j → j < second → ¬ (form (token_at text offsets j) ≡ token)) → StandsOnceAmong form text offsets token
   once_one second lt found before e after = (
     first,
     (lt, found),
@@ -112,8 +112,8 @@ module _ (text offsets token : List ℕ) (first : ℕ) where
     ],
   )
 
-  pub once_two : (second : ℕ) → first + 1 < length offsets → token_at text offsets first ≡ token → first + 1 ≤ second
-      → second + 1 < length offsets → token_at text offsets second ≡ token → ¬ (StandsOnceAmong text offsets token)
+  pub once_two : (second : ℕ) → first + 1 < length offsets → form (token_at text offsets first) ≡ token → first + 1 ≤ second
+      → second + 1 < length offsets → form (token_at text offsets second) ≡ token → ¬ (StandsOnceAmong form text offsets token)
   once_two second lt found past mt next once =
       omega (arith, once.2 first (lt, found), once.2 second (mt, next))
 
@@ -147,25 +147,25 @@ module _ (refs : List (Bor (List ℕ))) (vs : List (Vec ℕ Global)) (i : ℕ) (
       subst (AreOffsets (get_or refs i none).now) (sym e) (
       subst (λ ys. AreOffsets ys (get_or (lists_of vs) i [])) (none_at refs i) (are.each i (omega (arith, length-bytes_of refs))))
 
-  pub each_at : (token : List ℕ) → StandsOnceInEach (bytes_of refs) (lists_of vs) token → i < length refs → xs ≡ get_or (lists_of vs) i []
-      → StandsOnceAmong (get_or refs i none).now xs token
-  each_at token each lt e =
-      subst (λ os. StandsOnceAmong (get_or refs i none).now os token) (sym e) (
-      subst (λ ys. StandsOnceAmong ys (get_or (lists_of vs) i []) token) (none_at refs i) (each i (omega (arith, length-bytes_of refs))))
+  pub each_at : (form : List ℕ → List ℕ) (token : List ℕ) → StandsOnceInEach form (bytes_of refs) (lists_of vs) token → i < length refs → xs ≡ get_or (lists_of vs) i []
+      → StandsOnceAmong form (get_or refs i none).now xs token
+  each_at form token each lt e =
+      subst (λ os. StandsOnceAmong form (get_or refs i none).now os token) (sym e) (
+      subst (λ ys. StandsOnceAmong form ys (get_or (lists_of vs) i []) token) (none_at refs i) (each i (omega (arith, length-bytes_of refs))))
 
-  pub each_more : (token : List ℕ) → xs ≡ get_or (lists_of vs) i [] → StandsOnceAmong (get_or refs i none).now xs token
-      → ((j : ℕ) → j < i → StandsOnceAmong (get_or (bytes_of refs) j []) (get_or (lists_of vs) j []) token)
-      → (j : ℕ) → j < i + 1 → StandsOnceAmong (get_or (bytes_of refs) j []) (get_or (lists_of vs) j []) token
-  each_more token e here before =
-      below_more (λ j. StandsOnceAmong (get_or (bytes_of refs) j []) (get_or (lists_of vs) j []) token) i before
-      (subst (λ ys. StandsOnceAmong ys (get_or (lists_of vs) i []) token) (sym (none_at refs i)) (
-      subst (λ os. StandsOnceAmong (get_or refs i none).now os token) e here))
+  pub each_more : (form : List ℕ → List ℕ) (token : List ℕ) → xs ≡ get_or (lists_of vs) i [] → StandsOnceAmong form (get_or refs i none).now xs token
+      → ((j : ℕ) → j < i → StandsOnceAmong form (get_or (bytes_of refs) j []) (get_or (lists_of vs) j []) token)
+      → (j : ℕ) → j < i + 1 → StandsOnceAmong form (get_or (bytes_of refs) j []) (get_or (lists_of vs) j []) token
+  each_more form token e here before =
+      below_more (λ j. StandsOnceAmong form (get_or (bytes_of refs) j []) (get_or (lists_of vs) j []) token) i before
+      (subst (λ ys. StandsOnceAmong form ys (get_or (lists_of vs) i []) token) (sym (none_at refs i)) (
+      subst (λ os. StandsOnceAmong form (get_or refs i none).now os token) e here))
 
-  pub stands_at : (k : ℕ) (token : List ℕ) → xs ≡ get_or (lists_of vs) i [] → k + 1 < length xs
-      → token_at (get_or refs i none).now xs k ≡ token → StandsAt (get_or (bytes_of refs) i []) (get_or (lists_of vs) i []) token k
-  stands_at k token e lt at =
-      subst (λ ys. StandsAt ys (get_or (lists_of vs) i []) token k) (sym (none_at refs i)) (
-      subst (λ os. StandsAt (get_or refs i none).now os token k) e (lt, at))
+  pub stands_at : (form : List ℕ → List ℕ) (k : ℕ) (token : List ℕ) → xs ≡ get_or (lists_of vs) i [] → k + 1 < length xs
+      → form (token_at (get_or refs i none).now xs k) ≡ token → StandsAtBy form (get_or (bytes_of refs) i []) (get_or (lists_of vs) i []) token k
+  stands_at form k token e lt at =
+      subst (λ ys. StandsAtBy form ys (get_or (lists_of vs) i []) token k) (sym (none_at refs i)) (
+      subst (λ os. StandsAtBy form (get_or refs i none).now os token k) e (lt, at))
 
 pub length_push : (xs : List ℕ) (x : ℕ) → length (xs ++ x ∷ []) ≡ length xs + 1
 length_push xs x = grind (arith, common_steps)
@@ -194,16 +194,16 @@ number_here : (xs : List ℕ) (x n : ℕ) → length xs ≡ n → get_or (xs ++ 
 number_here xs x n e = grind (arith, common_steps, elements)
 
 -- the range of the token in one more part
-pub ranges_more : (row offsets : List (List ℕ)) (token starts ends starts' ends' : List ℕ) (start end n k : ℕ)
+pub ranges_more : (form : List ℕ → List ℕ) (row offsets : List (List ℕ)) (token starts ends starts' ends' : List ℕ) (start end n k : ℕ)
     → starts' ≡ starts ++ start ∷ [] → ends' ≡ ends ++ end ∷ [] → length starts ≡ n → length ends ≡ n
-    → ((i : ℕ) → i < n → IsTokenRange row offsets token starts ends i)
-    → StandsAt (get_or row n []) (get_or offsets n []) token k → start ≡ get_or (get_or offsets n []) k 0
+    → ((i : ℕ) → i < n → IsTokenRange form row offsets token starts ends i)
+    → StandsAtBy form (get_or row n []) (get_or offsets n []) token k → start ≡ get_or (get_or offsets n []) k 0
     → end ≡ get_or (get_or offsets n []) (k + 1) 0
-    → (i : ℕ) → i < n + 1 → IsTokenRange row offsets token starts' ends' i
-ranges_more row offsets token starts ends starts' ends' start end n k e f starts_len ends_len before at a b =
-    below_more (λ i. IsTokenRange row offsets token starts' ends' i) n
+    → (i : ℕ) → i < n + 1 → IsTokenRange form row offsets token starts' ends' i
+ranges_more form row offsets token starts ends starts' ends' start end n k e f starts_len ends_len before at a b =
+    below_more (λ i. IsTokenRange form row offsets token starts' ends' i) n
     (λ i lt.
-    let r : IsTokenRange row offsets token starts ends i = before i lt in (
+    let r : IsTokenRange form row offsets token starts ends i = before i lt in (
       r.0,
       r.1,
       ap (λ xs. get_or xs i 0) e ∙ number_before starts start n i starts_len lt ∙ r.2,
@@ -216,20 +216,20 @@ ranges_more row offsets token starts ends starts' ends' start end n k e f starts
     )
 
 -- the ranges of a token that occurs once in each part
-pub anchor_ranges : (t : TokenEnds) (row offsets : List (List ℕ)) (token starts ends : List ℕ) → 0 < length row
-    → AreTokenOffsets t row offsets → AreTokenRanges row offsets token starts ends → IsAnchor t row starts ends
-anchor_ranges t row offsets token starts ends some tokens found =
+pub anchor_ranges : (form : List ℕ → List ℕ) (t : TokenEnds) (row offsets : List (List ℕ)) (token starts ends : List ℕ) → 0 < length row
+    → AreTokenOffsets t row offsets → AreTokenRanges form row offsets token starts ends → IsAnchor form t row starts ends
+anchor_ranges form t row offsets token starts ends some tokens found =
     let at : (i : ℕ) → i < length row → (k : ℕ) × (k + 1 < length (token_offsets t (get_or row i [])))
-    × (token_at (get_or row i []) (token_offsets t (get_or row i [])) k ≡ token)
+    × (form (token_at (get_or row i []) (token_offsets t (get_or row i [])) k) ≡ token)
     × (get_or starts i 0 ≡ get_or (token_offsets t (get_or row i [])) k 0)
     × (get_or ends i 0 ≡ get_or (token_offsets t (get_or row i [])) (k + 1) 0) =
-    λ i lt. subst (λ os. (k : ℕ) × (k + 1 < length os) × (token_at (get_or row i []) os k ≡ token)
+    λ i lt. subst (λ os. (k : ℕ) × (k + 1 < length os) × (form (token_at (get_or row i []) os k) ≡ token)
     × (get_or starts i 0 ≡ get_or os k 0) × (get_or ends i 0 ≡ get_or os (k + 1) 0)) (tokens.each i lt)
-    (let f : IsTokenRange row offsets token starts ends i = found.tokens i lt in
+    (let f : IsTokenRange form row offsets token starts ends i = found.tokens i lt in
     (f.0, f.1.0, f.1.1, f.2, f.3)) in
-    let part : (i : ℕ) → i < length row → slice_range (get_or row i []) (get_or starts i 0) (get_or ends i 0) ≡ token =
-    λ i lt. ap (λ a. slice_range (get_or row i []) a (get_or ends i 0)) (at i lt).3
-    ∙ ap (λ b. slice_range (get_or row i []) (get_or (token_offsets t (get_or row i [])) (at i lt).0 0) b) (at i lt).4
+    let part : (i : ℕ) → i < length row → form (slice_range (get_or row i []) (get_or starts i 0) (get_or ends i 0)) ≡ token =
+    λ i lt. ap (λ a. form (slice_range (get_or row i []) a (get_or ends i 0))) (at i lt).3
+    ∙ ap (λ b. form (slice_range (get_or row i []) (get_or (token_offsets t (get_or row i [])) (at i lt).0 0) b)) (at i lt).4
     ∙ (at i lt).2 in
     record {
       ranges = record {
@@ -247,10 +247,10 @@ anchor_ranges t row offsets token starts ends some tokens found =
     }
 
 -- a common token is once between the offsets of each part
-common_each : (t : TokenEnds) (row offsets : List (List ℕ)) (token : List ℕ) → AreTokenOffsets t row offsets
-    → IsCommonToken t row token → StandsOnceInEach row offsets token
-common_each t row offsets token tokens common i lt =
-    subst (λ os. StandsOnceAmong (get_or row i []) os token) (sym (tokens.each i lt)) (common.once i lt)
+common_each : (form : List ℕ → List ℕ) (t : TokenEnds) (row offsets : List (List ℕ)) (token : List ℕ) → AreTokenOffsets t row offsets
+    → IsCommonTokenBy form t row token → StandsOnceInEach form row offsets token
+common_each form t row offsets token tokens common i lt =
+    subst (λ os. StandsOnceAmong form (get_or row i []) os token) (sym (tokens.each i lt)) (common.once i lt)
 
 pub no_few : (t : TokenEnds) (row offsets : List (List ℕ)) → AreTokenOffsets t row offsets → ¬ (AreFew offsets) → ¬ (HasFewTokens t row)
 no_few t row offsets tokens many few = many (λ i lt.
@@ -258,25 +258,25 @@ no_few t row offsets tokens many few = many (λ i lt.
     omega (arith, few i mt, ap length (tokens.each i mt)))
 
 -- no token of the first part occurs once in each
-no_token : (t : TokenEnds) (row offsets : List (List ℕ)) → AreTokenOffsets t row offsets
+no_token : (form : List ℕ → List ℕ) (t : TokenEnds) (row offsets : List (List ℕ)) → AreTokenOffsets t row offsets
     → ((k : ℕ) → k + 1 < length (get_or offsets 0 [])
-    → ¬ (StandsOnceInEach row offsets (token_at (get_or row 0 []) (get_or offsets 0 []) k)))
-    → (token : List ℕ) → ¬ (IsCommonToken t row token)
-no_token t row offsets tokens absent token common =
-    let each : StandsOnceInEach row offsets token = common_each t row offsets token tokens common in
-    let first : StandsOnceAmong (get_or row 0 []) (get_or offsets 0 []) token = each 0 common.some in
-    absent first.0 first.1.0 (subst (StandsOnceInEach row offsets) (sym first.1.1) each)
+    → ¬ (StandsOnceInEach form row offsets (form (token_at (get_or row 0 []) (get_or offsets 0 []) k))))
+    → (token : List ℕ) → ¬ (IsCommonTokenBy form t row token)
+no_token form t row offsets tokens absent token common =
+    let each : StandsOnceInEach form row offsets token = common_each form t row offsets token tokens common in
+    let first : StandsOnceAmong form (get_or row 0 []) (get_or offsets 0 []) token = each 0 common.some in
+    absent first.0 first.1.0 (subst (StandsOnceInEach form row offsets) (sym first.1.1) each)
 
 -- no token of the first part, as it was read, occurs once in each
-pub no_token_read : (t : TokenEnds) (refs : List (Bor (List ℕ))) (vs : List (Vec ℕ Global)) (xs : List ℕ)
+pub no_token_read : (form : List ℕ → List ℕ) (t : TokenEnds) (refs : List (Bor (List ℕ))) (vs : List (Vec ℕ Global)) (xs : List ℕ)
     → AreTokenOffsets t (bytes_of refs) (lists_of vs) → xs ≡ get_or (lists_of vs) 0 []
-    → ((k : ℕ) → k + 1 < length xs → ¬ (StandsOnceInEach (bytes_of refs) (lists_of vs) (token_at (get_or refs 0 none).now xs k)))
-    → (token : List ℕ) → ¬ (IsCommonToken t (bytes_of refs) token)
-no_token_read t refs vs xs tokens e absent =
-    no_token t (bytes_of refs) (lists_of vs) tokens (λ k lt each.
+    → ((k : ℕ) → k + 1 < length xs → ¬ (StandsOnceInEach form (bytes_of refs) (lists_of vs) (form (token_at (get_or refs 0 none).now xs k))))
+    → (token : List ℕ) → ¬ (IsCommonTokenBy form t (bytes_of refs) token)
+no_token_read form t refs vs xs tokens e absent =
+    no_token form t (bytes_of refs) (lists_of vs) tokens (λ k lt each.
     absent k (subst (λ os. k + 1 < length os) (sym e) lt)
-    (subst (λ os. StandsOnceInEach (bytes_of refs) (lists_of vs) (token_at (get_or refs 0 none).now os k)) (sym e)
-    (subst (λ ys. StandsOnceInEach (bytes_of refs) (lists_of vs) (token_at ys (get_or (lists_of vs) 0 []) k)) (none_at refs 0) each)))
+    (subst (λ os. StandsOnceInEach form (bytes_of refs) (lists_of vs) (form (token_at (get_or refs 0 none).now os k))) (sym e)
+    (subst (λ ys. StandsOnceInEach form (bytes_of refs) (lists_of vs) (form (token_at ys (get_or (lists_of vs) 0 []) k))) (none_at refs 0) each)))
 
 pub ruleset offset_steps = (lists_more)
 

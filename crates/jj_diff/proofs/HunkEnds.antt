@@ -10,7 +10,7 @@ use Rattle.jj_diff.specs.declared.diff.hunks.DiffHunkKind.TheVariants.{Matching,
 use Rattle.jj_diff.specs.Tokens.{IsCut, IsTokenizer, TokenEnds}
 use Rattle.jj_diff.specs.Inputs.{bytes_of, AreRanges, AreEqual, AreEqualBy, IsEmpty}
 use Rattle.jj_diff.specs.Ends.{suffix, IsCommonStart, IsCommonEnd, IsWithin}
-use Rattle.jj_diff.specs.Hunks.{row_of, kind_len, matched_len, matched_start, matched_end, IsPrefixDiff, IsDiffBy, AllMatch, AreTrimmed, IsTrimmed, StartsWith, AreCuts, AreStarts, AreLimits, IsMatch, IsProgress, MatchesEnds, IsHunkBy}
+use Rattle.jj_diff.specs.Hunks.{row_of, kind_len, matched_len, matched_start, matched_end, IsPrefixDiff, IsDiffBy, AllMatch, AreTrimmedBy, IsTrimmedBy, StartsWith, AreCuts, AreStarts, AreLimits, IsMatch, IsProgress, MatchesEnds, IsHunkBy}
 use Rattle.jj_diff.proofs.Rows.{take-slice_range, prefix_whole, no_cuts, length-bytes_of, none, none_at}
 
 -- the last hunk is what matches at the end
@@ -55,7 +55,7 @@ module _ (form : List ℕ → List ℕ) (t : TokenEnds) (inputs : List (List ℕ
       alternate = tt;
       cuts = λ k i le lt. no_cuts t (get_or inputs i []) i k;
     };
-    trimmed = All-nil (λ h. h.kind ≡ Different → IsTrimmed t (row_of h));
+    trimmed = All-nil (λ h. h.kind ≡ Different → IsTrimmedBy form t (row_of h));
     last = tt;
     pending = record {
       ranges = record {
@@ -188,8 +188,8 @@ differs : Matching ≡ Different → ⊥
 differs e = cc
 
 -- inputs without a hunk that differs
-pub trimmed_all : (t : TokenEnds) (hs : List DiffHunk) → AllMatch hs → AreTrimmed t hs
-trimmed_all t hs all k d lt = λ e. absurd (differs (sym (all k d lt) ∙ e))
+pub trimmed_all : (form : List ℕ → List ℕ) (t : TokenEnds) (hs : List DiffHunk) → AllMatch hs → AreTrimmedBy form t hs
+trimmed_all form t hs all k d lt = λ e. absurd (differs (sym (all k d lt) ∙ e))
 
 pub equal_by : (form : List ℕ → List ℕ) (row : List (List ℕ)) → AreEqual row → AreEqualBy form row
 equal_by form row same i lt = ap form (same i lt)

@@ -6,7 +6,7 @@ use Rattle.jj_diff.specs.Tokens.{TokenEnds}
 use Rattle.jj_diff.specs.declared.diff.hunks.DiffHunk.{DiffHunk}
 use Rattle.jj_diff.specs.declared.diff.hunks.DiffHunkKind.TheVariants.{Matching, Different}
 use Rattle.jj_diff.specs.Inputs.{side, AreRanges, AreParts, AreEqualBy, IsNonempty, IsEmpty}
-use Rattle.jj_diff.specs.Hunks.{row_of, kind_len, matched_len, matched_start, matched_end, IsPrefixDiff, EndsIn, AreCuts, HasGap, IsMatch, IsProgress, AreTrimmed, IsTrimmed, IsTrimmedGap, StartsWith}
+use Rattle.jj_diff.specs.Hunks.{row_of, kind_len, matched_len, matched_start, matched_end, IsPrefixDiff, EndsIn, AreCuts, HasGap, IsMatch, IsProgress, AreTrimmedBy, IsTrimmedBy, IsTrimmedGap, StartsWith}
 use Rattle.jj_diff.specs.Tokenizers.{length_range}
 use Rattle.jj_diff.proofs.Slices.{range_join}
 use Rattle.jj_diff.proofs.HunkEnds.{matched_end_push}
@@ -96,9 +96,9 @@ module _ (form : List ℕ → List ℕ) (t : TokenEnds) (inputs : List (List ℕ
   )
 
   -- a hunk more
-  pub trimmed_more : (hs : List DiffHunk) (h : DiffHunk) → AreTrimmed t hs → (h.kind ≡ Different → IsTrimmed t (row_of h))
-      → AreTrimmed t (hs ++ h ∷ [])
-  trimmed_more hs h before here = All-push (λ g. g.kind ≡ Different → IsTrimmed t (row_of g)) hs h before here
+  pub trimmed_more : (hs : List DiffHunk) (h : DiffHunk) → AreTrimmedBy form t hs → (h.kind ≡ Different → IsTrimmedBy form t (row_of h))
+      → AreTrimmedBy form t (hs ++ h ∷ [])
+  trimmed_more hs h before here = All-push (λ g. g.kind ≡ Different → IsTrimmedBy form t (row_of g)) hs h before here
 
   -- no hunk is before the first byte
   none_before : (hs : List DiffHunk) (starts : List ℕ) → IsPrefixDiff form t inputs hs starts → 0 < length inputs → hs ≡ []

@@ -8,7 +8,7 @@ use Rattle.jj_diff.specs.declared.diff.hunks.DiffHunkKind.{DiffHunkKind}
 use Rattle.jj_diff.specs.declared.diff.hunks.DiffHunkKind.TheVariants.{Matching, Different}
 use Rattle.jj_diff.specs.Inputs.{side, AreEqualBy, IsNonempty}
 use Rattle.jj_diff.specs.Tokens.{AreEndsToo, IsCut, IsTokenizer, TokenEnds}
-use Rattle.jj_diff.specs.Hunks.{row_of, Alternate, IsHunkBy, IsDiffBy, IsTrimmed, AreTrimmed, AllMatch}
+use Rattle.jj_diff.specs.Hunks.{row_of, Alternate, IsHunkBy, IsDiffBy, IsTrimmedBy, AreTrimmedBy, AllMatch}
 use Rattle.jj_diff.specs.Refined.{View, view_of, view_side, append_rows, join_kinds, join_first, joined, Each, AreHunksOf, AreRefinements, IsRefinement, IsRowDiff, IsRefined}
 use Rattle.jj_diff.proofs.Views.{view_side_of, side-append, side_joined, get-append_rows, joins_width, Joins, each-append, each_joined, each_of_all, all_of_each, StartsWith, starts_joined}
 use Rattle.jj_diff.proofs.HunkRanges.{side_len}
@@ -262,9 +262,9 @@ module _ (form : List ℕ → List ℕ) (t : TokenEnds) where
   all_refined P joins parts refined e each =
       all_of_each P refined (subst (Each P) (sym e) (each_joined P joins (map view_of parts) each))
 
-  pub refined_trimmed : (hs refined : List DiffHunk) → IsRefined form t hs refined → AreTrimmed t refined
+  pub refined_trimmed : (hs refined : List DiffHunk) → IsRefined form t hs refined → AreTrimmedBy form t refined
   refined_trimmed hs refined r =
-      let P : View → Type 0 = λ v. v.0 ≡ Different → IsTrimmed t v.1 in
+      let P : View → Type 0 = λ v. v.0 ≡ Different → IsTrimmedBy form t v.1 in
       all_refined P (λ v w e f p q d. absurd (differs (sym d))) r.0 refined r.2
       (each_refinement P (λ h. Unit {0}) (λ h m q d. absurd (differs (sym d ∙ m)))
       (λ h ds d q row. each_of_all P ds row.trimmed) hs r.0 r.1 (λ k d lt. tt))
@@ -334,7 +334,7 @@ module _ (form : List ℕ → List ℕ) (t : TokenEnds) (inputs : List (List ℕ
       let new : IsDiffBy form t inputs hs = diff_of_coarser form t before inputs hs too d in
       refined_diff form t inputs hs refined (r (hunks_of_diff form t inputs hs new)) law join new
 
-  pub trimmed_of : AreHunksOf inputs hs → AreTrimmed t refined
+  pub trimmed_of : AreHunksOf inputs hs → AreTrimmedBy form t refined
   trimmed_of of = refined_trimmed form t hs refined (r of)
 
   pub matching_of : AreHunksOf inputs hs → AllMatch hs → AllMatch refined

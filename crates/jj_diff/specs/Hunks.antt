@@ -1,6 +1,6 @@
 -- Hunks of a comparison.
--- Cited by contracts of public items: AllMatch, AreTrimmed, IsDiff, IsDiffBy, MatchesEnds,
--- hunk_ranges, matched_start.
+-- Cited by contracts of public items: AllMatch, AreTrimmed, AreTrimmedBy, IsDiff, IsDiffBy,
+-- MatchesEnds, hunk_ranges, matched_start.
 use Rattle.std.specs.Prelude.{◌≡◌, ◌≢◌, ℕ, ◌+◌, ◌-◌, ◌<◌, ◌≤◌, List, [], ◌∷◌, length, map, take, All, slice_index}
 use Rattle.std.specs.List.{slice_index_or, slice_range}
 use Rattle.std.specs.declared.ops.Range.{Range}
@@ -10,7 +10,7 @@ use Rattle.jj_diff.specs.declared.diff.hunks.DiffHunkKind.TheVariants.{Matching,
 use Rattle.jj_diff.specs.Inputs.{bytes_of, side, AreEqualBy, IsNonempty, AreRanges, AreParts}
 use Rattle.jj_diff.specs.Tokens.{IsCut, TokenEnds}
 use Rattle.jj_diff.specs.Ends.{IsCommonStart, IsCommonEnd}
-use Rattle.jj_diff.specs.Anchors.{HasFewTokens, IsCommonToken}
+use Rattle.jj_diff.specs.Anchors.{HasFewTokens, IsCommonTokenBy}
 
 -- the hunk's part of each input
 abbrev pub row_of : DiffHunk → List (List ℕ)
@@ -62,16 +62,24 @@ pub record HasTrimmedEnds (is_end : TokenEnds) (row : List (List ℕ)) : Type 0 
   pub end : (n : ℕ) → IsCommonEnd is_end row 0 n → n ≡ 0
 
 -- The parts of the row do not all start with the same tokens, nor all end with the same tokens. If
--- each part has at most 64 tokens, then no token occurs exactly once in each.
-pub record IsTrimmed (is_end : TokenEnds) (row : List (List ℕ)) : Type 0 where
+-- each part has at most 64 tokens, then for no canonical form each has exactly one token of it.
+pub record IsTrimmedBy (form : List ℕ → List ℕ) (is_end : TokenEnds) (row : List (List ℕ))
+    : Type 0 where
   pub start : (n : ℕ) → IsCommonStart is_end row n → n ≡ 0
   pub end : (n : ℕ) → IsCommonEnd is_end row 0 n → n ≡ 0
-  pub once : HasFewTokens is_end row → (token : List ℕ) → ¬ (IsCommonToken is_end row token)
+  pub once : HasFewTokens is_end row
+      → (token : List ℕ) → ¬ (IsCommonTokenBy form is_end row token)
 
--- No hunk that differs starts with a token that is equal in all inputs, nor ends with one, nor has
--- one that occurs exactly once in each part, if the parts have at most 64 tokens.
+-- No hunk that differs starts with a token that is equal in all inputs, nor ends with one, nor has,
+-- if the parts have at most 64 tokens, one whose canonical form occurs exactly once in each part.
+abbrev pub AreTrimmedBy : (List ℕ → List ℕ) → TokenEnds → List DiffHunk → Type 0
+AreTrimmedBy form is_end =
+    All (λ hunk. hunk.kind ≡ Different → IsTrimmedBy form is_end (row_of hunk))
+
+-- no hunk that differs starts or ends with a token that is equal in all inputs, nor has one that
+-- occurs exactly once in each part, if the parts have at most 64 tokens
 abbrev pub AreTrimmed : TokenEnds → List DiffHunk → Type 0
-AreTrimmed is_end = All (λ hunk. hunk.kind ≡ Different → IsTrimmed is_end (row_of hunk))
+AreTrimmed = AreTrimmedBy (λ text. text)
 
 -- no hunk differs; since kinds alternate, there is at most one
 abbrev pub AllMatch : List DiffHunk → Type 0
@@ -195,7 +203,7 @@ pub record IsTrimmedGap (is_end : TokenEnds) (inputs : List (List ℕ))
 pub record IsProgress (form : List ℕ → List ℕ) (is_end : TokenEnds) (inputs : List (List ℕ))
     (hunks : List DiffHunk) (from at : List ℕ) : Type 0 where
   pub prefix : IsPrefixDiff form is_end inputs hunks from
-  pub trimmed : AreTrimmed is_end hunks
+  pub trimmed : AreTrimmedBy form is_end hunks
   pub last : EndsIn Different hunks
   pub pending : IsMatch form is_end inputs from at
 

@@ -8,7 +8,7 @@ use Rattle.jj_diff.specs.declared.diff.hunks.DiffHunk.{DiffHunk}
 use Rattle.jj_diff.specs.declared.diff.hunks.DiffHunkKind.{DiffHunkKind}
 use Rattle.jj_diff.specs.declared.diff.hunks.DiffHunkKind.TheVariants.{Matching, Different}
 use Rattle.jj_diff.specs.Inputs.{side, AreEqualBy}
-use Rattle.jj_diff.specs.Hunks.{row_of, IsDiff, IsDiffBy, MatchesEnds, AreTrimmed, AllMatch, matched_start, matched_end}
+use Rattle.jj_diff.specs.Hunks.{row_of, IsDiff, IsDiffBy, MatchesEnds, AreTrimmed, AreTrimmedBy, AllMatch, matched_start, matched_end}
 
 -- the hunks have a part of each input, and parts i of all hunks are input i
 pub record AreHunksOf (inputs : List (List ℕ)) (hunks : List DiffHunk) : Type 0 where
@@ -51,7 +51,7 @@ pub record IsRowDiff (form : List ℕ → List ℕ) (is_end : TokenEnds) (row : 
     (hunks : List DiffHunk) : Type 0 where
   pub diff : IsDiffBy form is_end row hunks
   pub ends : MatchesEnds is_end row hunks
-  pub trimmed : AreTrimmed is_end hunks
+  pub trimmed : AreTrimmedBy form is_end hunks
   pub identity : AreEqualBy form row → AllMatch hunks
 
 -- a hunk that matches is left as it is, and one that differs becomes a comparison of its parts

@@ -4,7 +4,7 @@ ghost use Rattle.std.specs.List.{slice_index_or};
 ghost use Rattle.std.specs.Slice.Iter.{iter_rest};
 ghost use Rattle.jj_diff.specs.Inputs.{AreEqual, AreEqualBy, bytes_of, side};
 ghost use Rattle.jj_diff.specs.Tokens.{AreEndsToo, IsTokenizer, TokenEnds, is_line_end, is_word_end};
-ghost use Rattle.jj_diff.specs.Hunks.{AllMatch, AreTrimmed, IsDiff, IsDiffBy, MatchesEnds, hunk_ranges, row_of};
+ghost use Rattle.jj_diff.specs.Hunks.{AllMatch, AreTrimmed, AreTrimmedBy, IsDiff, IsDiffBy, MatchesEnds, hunk_ranges, row_of};
 ghost use Rattle.jj_diff.specs.Refined.{AreHunksOf, IsRefined, IsRefinedLines, KeepsEnds, KeepsMatches};
 
 use super::compare::{CompareBytes, CompareBytesExactly};
@@ -123,7 +123,10 @@ impl<'a> ContentDiff<'a> {
             IsDiffBy C.canonical (T.is_end tokenizer.now) (bytes_of inputs.now) d.hunks.items) }
         ensures ends { IfOk result
             (λ d. MatchesEnds (T.is_end tokenizer.now) (bytes_of inputs.now) d.hunks.items) }
-        ensures trimmed { IfOk result (λ d. AreTrimmed (T.is_end tokenizer.now) d.hunks.items) }
+        // No hunk that differs starts or ends with a token that is equal in all inputs; one of at
+        // most 64 tokens an input has no token that occurs once in each part under `compare`.
+        ensures trimmed { IfOk result
+            (λ d. AreTrimmedBy C.canonical (T.is_end tokenizer.now) d.hunks.items) }
         ensures identity { IfOk result
             (λ d. AreEqualBy C.canonical (bytes_of inputs.now) → AllMatch d.hunks.items) }
     {
@@ -179,7 +182,7 @@ impl<'a> ContentDiff<'a> {
             → KeepsEnds self.old.hunks.items self.new.hunks.items) }
         ensures trimmed { OnOk result
             (AreHunksOf (bytes_of self.old.inputs.items) self.old.hunks.items
-            → AreTrimmed (T.is_end tokenizer.now) self.new.hunks.items) }
+            → AreTrimmedBy C.canonical (T.is_end tokenizer.now) self.new.hunks.items) }
         ensures identity { OnOk result
             (AreHunksOf (bytes_of self.old.inputs.items) self.old.hunks.items
             → AllMatch self.old.hunks.items → AllMatch self.new.hunks.items) }

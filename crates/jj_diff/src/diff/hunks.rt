@@ -4,7 +4,7 @@ ghost use Rattle.std.specs.Prelude.{◌≡◌, ◌⊎◌, ℕ, ◌+◌, ◌<◌,
 ghost use Rattle.jj_diff.specs.Inputs.{bytes_of, AreEqual, AreEqualBy, AreRanges, IsNonempty};
 ghost use Rattle.jj_diff.specs.Tokens.{IsTokenizer, TokenEnds};
 ghost use Rattle.jj_diff.specs.Ends.{IsCommonStart, IsCommonEnd};
-ghost use Rattle.jj_diff.specs.Hunks.{IsDiff, IsDiffBy, MatchesEnds, AllMatch, AreTrimmed, AreStarts, AreLimits, AreCuts, IsMatch, IsProgress, IsRegion, HasGap, StartsWith, matched_start, matched_end};
+ghost use Rattle.jj_diff.specs.Hunks.{IsDiff, IsDiffBy, MatchesEnds, AllMatch, AreTrimmed, AreTrimmedBy, AreStarts, AreLimits, AreCuts, IsMatch, IsProgress, IsRegion, HasGap, StartsWith, matched_start, matched_end};
 
 use super::common::{common_end, common_start};
 use super::compare::{CompareBytes, CompareBytesExactly};
@@ -167,7 +167,7 @@ fn push_region<'a, T: Tokenizer, C: CompareBytes>(
     if !fits {
         return Ok(());
     }
-    progress.advance::<T, C>(alloc, tokenizer, inputs, starts, ends)?;
+    progress.advance(alloc, tokenizer, compare, inputs, starts, ends)?;
     Ok(())
 }
 
@@ -205,7 +205,7 @@ fn push_regions<'a, T: Tokenizer, C: CompareBytes>(
     for region in regions {
         push_region(alloc, tokenizer, compare, inputs, progress, region, starts)?;
     }
-    progress.advance::<T, C>(alloc, tokenizer, inputs, starts, ends)?;
+    progress.advance(alloc, tokenizer, compare, inputs, starts, ends)?;
     Ok(())
 }
 
@@ -270,7 +270,8 @@ fn region_hunks<'a, T: Tokenizer, C: CompareBytes>(
         (λ hunks. IsDiffBy C.canonical (T.is_end tokenizer.now) (bytes_of inputs.now) hunks.items) }
     ensures ends { IfOk result
         (λ hunks. MatchesEnds (T.is_end tokenizer.now) (bytes_of inputs.now) hunks.items) }
-    ensures trimmed { IfOk result (λ hunks. AreTrimmed (T.is_end tokenizer.now) hunks.items) }
+    ensures trimmed { IfOk result
+        (λ hunks. AreTrimmedBy C.canonical (T.is_end tokenizer.now) hunks.items) }
 {
     let start = common_start(tokenizer, inputs);
     let end = common_end(tokenizer, inputs, start);
@@ -311,7 +312,8 @@ fn started_hunks<'a, T: Tokenizer, C: CompareBytes>(
     ensures start { IfOk result (λ hunks. (n : ℕ)
         → IsCommonStart (T.is_end tokenizer.now) (bytes_of inputs.now) n
         → n ≤ matched_start hunks.items) }
-    ensures trimmed { IfOk result (λ hunks. AreTrimmed (T.is_end tokenizer.now) hunks.items) }
+    ensures trimmed { IfOk result
+        (λ hunks. AreTrimmedBy C.canonical (T.is_end tokenizer.now) hunks.items) }
 {
     let start = common_start(tokenizer, inputs);
     let mut progress = progress_from(alloc, tokenizer, inputs, start)?;
@@ -346,7 +348,8 @@ pub fn compared_hunks<'a, T: Tokenizer, C: CompareBytes>(
         (λ hunks. IsDiffBy C.canonical (T.is_end tokenizer.now) (bytes_of inputs.now) hunks.items) }
     ensures ends { IfOk result
         (λ hunks. MatchesEnds (T.is_end tokenizer.now) (bytes_of inputs.now) hunks.items) }
-    ensures trimmed { IfOk result (λ hunks. AreTrimmed (T.is_end tokenizer.now) hunks.items) }
+    ensures trimmed { IfOk result
+        (λ hunks. AreTrimmedBy C.canonical (T.is_end tokenizer.now) hunks.items) }
     ensures identity { IfOk result
         (λ hunks. AreEqualBy C.canonical (bytes_of inputs.now) → AllMatch hunks.items) }
 {

@@ -2,8 +2,8 @@
 ghost use Rattle.std.specs.Prelude.{◌≡◌, ◌⊎◌, ℕ, ◌+◌, ◌<◌, ◌≤◌, List, [], length, IfOk, OnOk, slice_index};
 ghost use Rattle.std.specs.List.{slice_index_or};
 ghost use Rattle.jj_diff.specs.Inputs.{bytes_of, AreRanges, AreParts, IsNonempty};
-ghost use Rattle.jj_diff.specs.Hunks.{IsPrefixDiff, EndsIn, AreCuts, HasGap, IsMatch, IsProgress, AreTrimmed, IsTrimmed, IsTrimmedGap, AreSums, StartsWith, matched_start, matched_end};
-ghost use Rattle.jj_diff.specs.Anchors.{HasFewTokens, IsCommonToken};
+ghost use Rattle.jj_diff.specs.Hunks.{IsPrefixDiff, EndsIn, AreCuts, HasGap, IsMatch, IsProgress, AreTrimmedBy, IsTrimmedBy, IsTrimmedGap, AreSums, StartsWith, matched_start, matched_end};
+ghost use Rattle.jj_diff.specs.Anchors.{HasFewTokens, IsCommonTokenBy};
 
 use super::anchors::find_anchor;
 use super::compare::CompareBytes;
@@ -35,14 +35,15 @@ fn push_different<'a, T: Tokenizer, C: CompareBytes>(
     requires cuts { AreCuts (T.is_end tokenizer.now) (bytes_of inputs.now) ends.now }
     requires prefix { IsPrefixDiff C.canonical (T.is_end tokenizer.now) (bytes_of inputs.now)
         hunks.old.items starts.now }
-    requires all_trimmed { AreTrimmed (T.is_end tokenizer.now) hunks.old.items }
+    requires all_trimmed { AreTrimmedBy C.canonical (T.is_end tokenizer.now) hunks.old.items }
     requires last { EndsIn DiffHunkKind.Matching hunks.old.items }
     requires row { AreParts (bytes_of inputs.now) starts.now ends.now (bytes_of row.items) }
     requires nonempty { IsNonempty (bytes_of row.items) }
-    requires trimmed { IsTrimmed (T.is_end tokenizer.now) (bytes_of row.items) }
+    requires trimmed { IsTrimmedBy C.canonical (T.is_end tokenizer.now) (bytes_of row.items) }
     ensures prefix { OnOk result (IsPrefixDiff C.canonical (T.is_end tokenizer.now)
         (bytes_of inputs.now) hunks.new.items ends.now) }
-    ensures trimmed { OnOk result (AreTrimmed (T.is_end tokenizer.now) hunks.new.items) }
+    ensures trimmed { OnOk result
+        (AreTrimmedBy C.canonical (T.is_end tokenizer.now) hunks.new.items) }
     ensures last { OnOk result (EndsIn DiffHunkKind.Different hunks.new.items) }
     ensures start { OnOk result ((n : ℕ) → (at : List ℕ) → n ≤ matched_start hunks.old.items
         → StartsWith n hunks.new.items at) }
@@ -67,13 +68,14 @@ pub(super) fn push_matching<'a, T: Tokenizer, C: CompareBytes>(
     requires some { 0 < length inputs.now }
     requires prefix { IsPrefixDiff C.canonical (T.is_end tokenizer.now) (bytes_of inputs.now)
         hunks.old.items starts.now }
-    requires trimmed { AreTrimmed (T.is_end tokenizer.now) hunks.old.items }
+    requires trimmed { AreTrimmedBy C.canonical (T.is_end tokenizer.now) hunks.old.items }
     requires last { EndsIn DiffHunkKind.Different hunks.old.items }
     requires pending { IsMatch C.canonical (T.is_end tokenizer.now) (bytes_of inputs.now) starts.now
         ends.now }
     ensures prefix { OnOk result (IsPrefixDiff C.canonical (T.is_end tokenizer.now)
         (bytes_of inputs.now) hunks.new.items ends.now) }
-    ensures trimmed { OnOk result (AreTrimmed (T.is_end tokenizer.now) hunks.new.items) }
+    ensures trimmed { OnOk result
+        (AreTrimmedBy C.canonical (T.is_end tokenizer.now) hunks.new.items) }
     ensures last { OnOk result
         ((hunks.old.items ≡ []) ⊎ HasGap (bytes_of inputs.now) starts.now ends.now
         → EndsIn DiffHunkKind.Matching hunks.new.items) }
@@ -108,7 +110,7 @@ fn push_gap<'a, T: Tokenizer, C: CompareBytes>(
     requires some { 0 < length inputs.now }
     requires prefix { IsPrefixDiff C.canonical (T.is_end tokenizer.now) (bytes_of inputs.now)
         hunks.old.items from.now }
-    requires all_trimmed { AreTrimmed (T.is_end tokenizer.now) hunks.old.items }
+    requires all_trimmed { AreTrimmedBy C.canonical (T.is_end tokenizer.now) hunks.old.items }
     requires last { EndsIn DiffHunkKind.Different hunks.old.items }
     requires pending { IsMatch C.canonical (T.is_end tokenizer.now) (bytes_of inputs.now) from.now
         gap.now.starts.items }
@@ -119,10 +121,11 @@ fn push_gap<'a, T: Tokenizer, C: CompareBytes>(
     requires row { AreParts (bytes_of inputs.now) gap.now.starts.items gap.now.ends.items
         (bytes_of row.items) }
     requires nonempty { IsNonempty (bytes_of row.items) }
-    requires trimmed { IsTrimmed (T.is_end tokenizer.now) (bytes_of row.items) }
+    requires trimmed { IsTrimmedBy C.canonical (T.is_end tokenizer.now) (bytes_of row.items) }
     ensures prefix { OnOk result (IsPrefixDiff C.canonical (T.is_end tokenizer.now)
         (bytes_of inputs.now) hunks.new.items gap.now.ends.items) }
-    ensures trimmed { OnOk result (AreTrimmed (T.is_end tokenizer.now) hunks.new.items) }
+    ensures trimmed { OnOk result
+        (AreTrimmedBy C.canonical (T.is_end tokenizer.now) hunks.new.items) }
     ensures last { OnOk result (EndsIn DiffHunkKind.Different hunks.new.items) }
     ensures start { OnOk result ((n : ℕ) → (at : List ℕ)
         → StartsWith n hunks.old.items gap.now.starts.items → StartsWith n hunks.new.items at) }
@@ -189,7 +192,7 @@ impl<'a> Progress<'a> {
             (bytes_of row.items) }
         requires once { HasFewTokens (T.is_end tokenizer.now) (bytes_of row.items)
             → (token : List ℕ)
-            → ¬ (IsCommonToken (T.is_end tokenizer.now) (bytes_of row.items) token) }
+            → ¬ (IsCommonTokenBy C.canonical (T.is_end tokenizer.now) (bytes_of row.items) token) }
         ensures progress { OnOk result (IsProgress C.canonical (T.is_end tokenizer.now)
             (bytes_of inputs.now) self.new.hunks.items self.new.from.items self.new.at.items) }
         ensures at { OnOk result (self.new.at.items ≡ ends.now) }
@@ -226,6 +229,7 @@ impl<'a> Progress<'a> {
         &mut self,
         alloc: Global,
         tokenizer: &T,
+        compare: &C,
         inputs: &[&'a [u8]],
         starts: &[usize],
         ends: &[usize],
@@ -250,14 +254,14 @@ impl<'a> Progress<'a> {
     {
         let gap = trim_gap(alloc, tokenizer, inputs, &self.at, starts)?;
         let row = parts(alloc, inputs, &gap.starts, &gap.ends)?;
-        let found = find_anchor(alloc, tokenizer, &row)?;
+        let found = find_anchor(alloc, tokenizer, compare, &row)?;
         match found {
             Some(anchor) => {
                 let region = anchor_region(alloc, inputs, &gap, &anchor)?;
                 let first = region.starts.as_slice();
                 let last = region.ends.as_slice();
-                self.advance::<T, C>(alloc, tokenizer, inputs, first, last)?;
-                self.advance::<T, C>(alloc, tokenizer, inputs, starts, ends)
+                self.advance(alloc, tokenizer, compare, inputs, first, last)?;
+                self.advance(alloc, tokenizer, compare, inputs, starts, ends)
             }
             None => self.pass::<T, C>(alloc, tokenizer, inputs, gap, row, starts, ends),
         }

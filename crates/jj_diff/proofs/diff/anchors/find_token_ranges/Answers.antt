@@ -1,4 +1,4 @@
-use Rattle.std.proofs.Common.{◌≡◌, ◌<◌, ◌+◌, length, arith, subst, sym}
+use Rattle.std.proofs.Common.{◌≡◌, ◌<◌, ◌+◌, length, ap, arith, subst, sym}
 use Rattle.jj_diff.specs.Inputs.{bytes_of}
 use Rattle.jj_diff.specs.Anchors.{lists_of, AreRowOffsets, StandsOnceInEach}
 use Rattle.jj_diff.proofs.Rows.{length-bytes_of}
@@ -22,7 +22,7 @@ find_token-index-requires-clause-first g c =
 pub returns-then-index-first-clause-none : goal.returns-then-index-first-clause-none
 returns-then-index-first-clause-none g c = λ e.
     let last : c.find_token-index.result + 1 ≡ length c.offsets_of-first.result.now = omega (arith, c.if-index-first.true) in
-    no_token_read (g.T.Tokenizer.is_end c.args.tokenizer.now) c.args.row.now c.args.offsets.now c.offsets_of-first.result.now c.requires.tokens c.offsets_of-first.ensures
+    no_token_read g.C.CompareBytes.canonical (g.T.Tokenizer.is_end c.args.tokenizer.now) c.args.row.now c.args.offsets.now c.offsets_of-first.result.now c.requires.tokens c.offsets_of-first.ensures
     (c.find_token-index.ensures.none last)
 
 pub token_at-token-requires-clause-offsets : goal.token_at-token-requires-clause-offsets
@@ -39,11 +39,11 @@ pub token_ranges-requires-clause-once : goal.token_ranges-requires-clause-once
 token_ranges-requires-clause-once g c =
     let lt : c.find_token-index.result + 1 < length c.offsets_of-first.result.now =
     omega (arith, c.find_token-index.ensures.within, c.if-index-first.false) in
-    subst (StandsOnceInEach (bytes_of c.args.row.now) (lists_of c.args.offsets.now)) (sym c.token_at-token.ensures)
+    subst (StandsOnceInEach g.C.CompareBytes.canonical (bytes_of c.args.row.now) (lists_of c.args.offsets.now)) (sym (ap g.C.CompareBytes.canonical c.token_at-token.ensures))
     (c.find_token-index.ensures.found lt)
 
 pub returns-clause-anchor : goal.returns-clause-anchor
 returns-clause-anchor g c =
     let some : 0 < length (bytes_of c.args.row.now) = omega (arith, c.requires.some, length-bytes_of c.args.row.now) in
-    anchor_ranges (g.T.Tokenizer.is_end c.args.tokenizer.now) (bytes_of c.args.row.now) (lists_of c.args.offsets.now) c.token_at-token.result.now
+    anchor_ranges g.C.CompareBytes.canonical (g.T.Tokenizer.is_end c.args.tokenizer.now) (bytes_of c.args.row.now) (lists_of c.args.offsets.now) (g.C.CompareBytes.canonical c.token_at-token.result.now)
     c.in_ok-region.region.starts.items c.in_ok-region.region.ends.items some c.requires.tokens c.in_ok-region.ensures
