@@ -1,16 +1,19 @@
 //! Proved callers: contracts of unified diffs as a user states them.
-ghost use Rattle.std.specs.Prelude.{◌≡◌, ◌≢◌, List, [], IfOk, IsOk, MatchOption};
+ghost use Rattle.std.specs.Prelude.{◌≡◌, ◌≢◌, ℕ, List, [], ◌∷◌, take, All, IfOk, IsOk, MatchOption};
+ghost use Rattle.jj_diff.specs.Ends.{IsCommonStart};
+ghost use Rattle.jj_diff.specs.Tokens.{is_line_end};
 ghost use Rattle.jj_diff_presentation.specs.Applying.{applied};
 ghost use Rattle.jj_diff_presentation.specs.GitDiffs.{EndsWithPatch, IsTextual};
 ghost use Rattle.jj_diff_presentation.specs.Hunks.{IsPatch};
 ghost use Rattle.jj_diff_presentation.specs.Lines.{split_lines};
 ghost use Rattle.jj_diff_presentation.specs.Words.{IsWordDiff};
 ghost use Rattle.jj_diff_presentation.specs.declared.unified.hunks.UnifiedDiffHunk.{UnifiedDiffHunk};
+ghost use Rattle.jj_diff_presentation_tests.specs.Compared.{StartsInContext, HasPartsApart};
 ghost use Rattle.jj_diff_presentation_tests.specs.Outcomes.{IsOutOfMemory, IsWrongLine};
 
 use jj_diff_presentation::unified::{
-    ApplyError, FileMode, FileVersion, apply, push_git_diff, write_unified_diff,
-    write_word_diff_hunks,
+    ApplyError, DiffLine, DiffToken, FileMode, FileVersion, apply, diff_lines, push_git_diff,
+    word_diff, write_unified_diff, write_word_diff_hunks,
 };
 use std::alloc::{AllocError, Global};
 
@@ -85,4 +88,33 @@ pub fn wrong_line(
         Err(ApplyError::Memory(error)) => Err(error),
         Err(ApplyError::Fault(fault, found)) => Ok(Some((fault.line, found))),
     }
+}
+
+/// Compares two versions line by line. Lines that both start with come first, as context.
+#[tactic(auto, using(crate::proofs::Compared::line_steps))]
+pub fn compare_lines<'a>(
+    alloc: Global,
+    left: &'a [u8],
+    right: &'a [u8],
+) -> Result<Vec<DiffLine<'a>>, AllocError>
+    ensures { IfOk result (λ lines. (n : ℕ)
+        → IsCommonStart is_line_end (left.now ∷ right.now ∷ []) n
+        → StartsInContext (split_lines (take n left.now)) lines.items) }
+{
+    let lines = diff_lines(alloc, left, right)?;
+    Ok(lines)
+}
+
+/// Compares two versions word by word. The two parts of a token that differs start with different
+/// words, and end with different ones.
+#[tactic(auto, using(crate::proofs::Compared::word_steps))]
+pub fn compare_tokens<'a>(
+    alloc: Global,
+    left: &'a [u8],
+    right: &'a [u8],
+) -> Result<Vec<DiffToken<'a>>, AllocError>
+    ensures { IfOk result (λ tokens. All HasPartsApart tokens.items) }
+{
+    let tokens = word_diff(alloc, left, right)?;
+    Ok(tokens)
 }
