@@ -36,12 +36,12 @@ RemovesEach {D} may_remove dir (name ∷ names) old new =
     (next : D) × may_remove old (path_join dir name) (Ok tt) next
     × RemovesEach may_remove dir names next new
 
--- the error of emptying a directory: listing it failed; or the entry after a removed prefix of the
--- entries could not be removed; or out of memory
+-- the error of emptying a directory: listing it failed, and the error has its path; or the entry
+-- after a removed prefix of the entries could not be removed; or out of memory
 abbrev pub IsRemovalError : {D : Type 0} → ListRelation D → CallRelation D → List ℕ → D
     → PathError → D → Type 0
 IsRemovalError {D} may_list may_remove dir old fault new =
-    (may_list old dir (Err fault) × (new ≡ old))
+    (may_list old dir (Err fault) × IsListError dir fault × (new ≡ old))
     ⊎ ((removed rest : List (List ℕ)) × (name : List ℕ) × (error : Error) × (between : D)
     × may_list old dir (Ok (removed ++ name ∷ rest))
     × RemovesEach may_remove dir removed old between
@@ -60,11 +60,12 @@ EmptiesDir may_list may_remove dir old result new =
     (λ fault. IsRemovalError may_list may_remove dir old fault new)
 
 -- false if there is no directory; otherwise whether its list of entries is empty, or the error of
--- listing it
+-- listing it, with its path
 abbrev pub IsEmptyDir : {D : Type 0} → (D → List ℕ → Bool) → ListRelation D → List ℕ → D
     → Result Bool PathError → Type 0
 IsEmptyDir is_directory may_list path dirs result =
     MatchBool (is_directory dirs path)
     ((listed : Result (List (List ℕ)) PathError) × may_list dirs path listed
-    × MatchResult listed (λ names. result ≡ Ok (length names == 0)) (λ fault. result ≡ Err fault))
+    × MatchResult listed (λ names. result ≡ Ok (length names == 0))
+    (λ fault. (result ≡ Err fault) × IsListError path fault))
     (result ≡ Ok false)

@@ -3,7 +3,7 @@ use Rattle.std.proofs.Common.{◌≡◌, ◌==◌, ℕ, arith, inl, inr, Bool, t
 use Rattle.std.specs.Prelude.{IfOk, MatchBool, MatchResult}
 use Rattle.std.specs.declared.io.Error.{Error}
 use Rattle.std.proofs.lemmas.Bool.Decides.{nat_tests}
-use Rattle.jj_files.specs.Directories.{CreatesOrReuses, EmptiesDir, IsEmptyDir, RemovesEach}
+use Rattle.jj_files.specs.Directories.{CreatesOrReuses, EmptiesDir, IsEmptyDir, IsListError, RemovesEach}
 use Rattle.jj_files.specs.declared.file_util.errors.PathError.{PathError}
 use Rattle.jj_paths_tests.specs.EmptyDirs.{ChangesOnlyIn, none, create, remove, TellsEmpty}
 
@@ -24,18 +24,18 @@ module _ {D : Type 0} (is_directory : D → List ℕ → Bool) (may_create may_r
       → ChangesOnlyIn may_create may_remove path first new
   emptied first old new (Ok done) before h = each_removed first old new h.0 before h.2
   emptied first old new (Err fault) before h = elim h [
-    | inl listing ↦ subst (ChangesOnlyIn may_create may_remove path first) (sym listing.1) before
+    | inl listing ↦ subst (ChangesOnlyIn may_create may_remove path first) (sym listing.2) before
     | inr (inl removal) ↦ remove removal.2 (each_removed first old removal.4 removal.0 before removal.6) removal.7
     | inr (inr memory) ↦ each_removed first old new memory.1.0 before memory.1.3
   ]
 
   told : (dirs : D) (is_there : Bool) (empty : Bool) → is_directory dirs path ≡ is_there
-      → MatchBool is_there ((listed : Result (List (List ℕ)) PathError) × may_list dirs path listed × MatchResult listed (λ names. test empty ≡ Ok (length names == 0)) (λ other. test empty ≡ Err other)) (test empty ≡ Ok false)
+      → MatchBool is_there ((listed : Result (List (List ℕ)) PathError) × may_list dirs path listed × MatchResult listed (λ names. test empty ≡ Ok (length names == 0)) (λ fault. (test empty ≡ Err fault) × IsListError path fault)) (test empty ≡ Ok false)
       → TellsEmpty is_directory may_list path dirs empty
   told dirs false empty is h =
       let no : empty ≡ false = cc in
       subst (TellsEmpty is_directory may_list path dirs) (sym no) (inl is)
-  told dirs true empty is (Err other, may, h) = absurd (cc)
+  told dirs true empty is (Err fault, may, h) = let e : test empty ≡ Err fault = h.0 in absurd cc
   told dirs true empty is (Ok [], may, h) =
       let yes : empty ≡ true = cc in
       subst (TellsEmpty is_directory may_list path dirs) (sym yes) (is, may)

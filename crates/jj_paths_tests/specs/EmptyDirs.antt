@@ -1,6 +1,6 @@
 -- Making a directory that is empty.
 -- Cited by contracts of public items: ChangesOnlyIn, IsDirError, IsEmptied, TellsEmpty.
-use Rattle.std.specs.Prelude.{◌≡◌, ◌⊎◌, ⊤, ℕ, Bool, true, false, List, [], ◌∷◌, Result, Ok, Err, MatchBool, string_bytes}
+use Rattle.std.specs.Prelude.{◌≡◌, ◌⊎◌, ⊤, ℕ, Bool, true, false, List, [], ◌∷◌, Result, Ok, MatchBool, string_bytes}
 use Rattle.std.specs.Path.{path_join}
 use Rattle.std.specs.declared.io.Error.{Error}
 use Rattle.jj_files.specs.Directories.{CallRelation, CreatesOrReuses, ListRelation, RemovesEach}
@@ -35,10 +35,8 @@ TellsEmpty is_directory may_list path dirs empty =
     ((is_directory dirs path ≡ false)
     ⊎ ((name : List ℕ) × (names : List (List ℕ)) × may_list dirs path (Ok (name ∷ names))))
 
--- the error has the path of the directory or of an entry, or it is one of listing the directory, or
--- out of memory
-abbrev pub IsDirError : {D : Type 0} → ListRelation D → List ℕ → PathError → Type 0
-IsDirError {D} may_list path (Invalid at cause) = (string_bytes at ≡ path)
+-- the error has the path of the directory or of an entry, or it is out of memory
+abbrev pub IsDirError : List ℕ → PathError → Type 0
+IsDirError path (Invalid at cause) = (string_bytes at ≡ path)
     ⊎ ((name : List ℕ) × (string_bytes at ≡ path_join path name))
-    ⊎ ((dirs : D) × may_list dirs path (Err (Invalid at cause)))
-IsDirError may_list path Memory = ⊤
+IsDirError path Memory = ⊤

@@ -21,7 +21,8 @@ pub fn make_empty_dir<D: DirAccess>(
         path.now dirs.old dirs.new) }
     ensures empty { IfOk result (TellsEmpty D.is_directory D.may_list path.now dirs.new) }
     ensures changes { ChangesOnlyIn D.may_create D.may_remove path.now dirs.old dirs.new }
-    ensures error { IfErr result (IsDirError D.may_list path.now) }
+    // An error has the path of the directory or of an entry in it.
+    ensures error { IfErr result (IsDirError path.now) }
 {
     create_or_reuse_dir(alloc, dirs, path)?;
     remove_dir_contents(alloc, dirs, path)?;
