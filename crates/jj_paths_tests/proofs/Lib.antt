@@ -1,3 +1,4 @@
 pub mod SetValues
 mod EmptiedDirs
+mod FirstChildren
 mod RelativeWays

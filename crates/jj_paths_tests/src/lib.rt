@@ -17,4 +17,6 @@ mod fixtures;
 #[cfg(test)]
 pub mod fs_callers;
 #[cfg(test)]
+pub mod listings;
+#[cfg(test)]
 mod trees;
