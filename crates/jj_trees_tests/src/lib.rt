@@ -10,6 +10,8 @@ pub mod callers;
 #[cfg(test)]
 mod levels_tests;
 #[cfg(test)]
+pub mod object_callers;
+#[cfg(test)]
 mod one_byte_tests;
 #[cfg(test)]
 mod root_tests;
