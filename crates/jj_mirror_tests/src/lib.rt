@@ -4,6 +4,8 @@
 #[cfg(test)]
 pub mod callers;
 #[cfg(test)]
+mod error_tests;
+#[cfg(test)]
 pub mod logs;
 #[cfg(test)]
 mod mirrored_tests;
