@@ -1,2 +1,3 @@
 mod ContentFailures
 mod OnlyCommits
+mod RevisionErrors

@@ -8,6 +8,7 @@ use Rattle.std.specs.Option.{option_or}
 use Rattle.std.specs.Str.{str_to_ascii_lowercase}
 use Rattle.std.specs.declared.string.String.{String}
 use Rattle.jj_content.specs.Hex.{hex, hex_digits, is_hex}
+use Rattle.jj_excerpts.specs.Excerpts.{excerpt_of}
 use Rattle.jj_ids.specs.declared.object_id.prefix_resolution.PrefixResolution.{PrefixResolution}
 use Rattle.jj_ids.specs.declared.object_id.prefix_resolution.PrefixResolution.TheVariants.{NoMatch, SingleMatch, AmbiguousMatch}
 use Rattle.jj_history.specs.declared.error.RevisionError.{RevisionError}
@@ -68,15 +69,15 @@ IsResolution found NoMatch = found ≡ []
 IsResolution found (SingleMatch id) = IsOnly found id
 IsResolution found AmbiguousMatch = HasSeveral found
 
-abbrev pub IsUnknownError : RevisionError → Type 0
-IsUnknownError Memory = Unit {0}
-IsUnknownError (Unknown quoted) = Unit {0}
-IsUnknownError (Ambiguous quoted) = ⊥
+abbrev pub IsUnknownError : List ℕ → RevisionError → Type 0
+IsUnknownError revision Memory = Unit {0}
+IsUnknownError revision (Unknown quoted) = string_bytes quoted ≡ excerpt_of revision
+IsUnknownError revision (Ambiguous quoted) = ⊥
 
-abbrev pub IsAmbiguousError : RevisionError → Type 0
-IsAmbiguousError Memory = Unit {0}
-IsAmbiguousError (Unknown quoted) = ⊥
-IsAmbiguousError (Ambiguous quoted) = Unit {0}
+abbrev pub IsAmbiguousError : List ℕ → RevisionError → Type 0
+IsAmbiguousError revision Memory = Unit {0}
+IsAmbiguousError revision (Unknown quoted) = ⊥
+IsAmbiguousError revision (Ambiguous quoted) = string_bytes quoted ≡ excerpt_of revision
 
 module _ (refs git_ids : Names) (ids : List (List ℕ)) (revision : List ℕ) where
   -- the commit of the ref; without one, the only commit with an id that begins with the revision
@@ -84,10 +85,11 @@ module _ (refs git_ids : Names) (ids : List (List ℕ)) (revision : List ℕ) wh
   IsNamed id = (ref_commit refs revision ≡ Some id)
       ⊎ ((ref_commit refs revision ≡ None) × IsOnly (commits_at git_ids ids revision) id)
 
-  -- there is no such ref; no commit has such an id, or several have one
+  -- there is no such ref; no commit has such an id, or several have one; the error quotes the
+  -- revision
   abbrev pub IsRevisionError : RevisionError → Type 0
   IsRevisionError Memory = Unit {0}
   IsRevisionError (Unknown quoted) = (ref_commit refs revision ≡ None)
-      × (commits_at git_ids ids revision ≡ [])
+      × (commits_at git_ids ids revision ≡ []) × (string_bytes quoted ≡ excerpt_of revision)
   IsRevisionError (Ambiguous quoted) = (ref_commit refs revision ≡ None)
-      × HasSeveral (commits_at git_ids ids revision)
+      × HasSeveral (commits_at git_ids ids revision) × (string_bytes quoted ≡ excerpt_of revision)

@@ -177,7 +177,7 @@ fn only_commit(found: &[CommitId]) -> Result<PrefixResolution<CommitId>, AllocEr
 }
 
 fn unknown(alloc: Global, revision: &str) -> RevisionError
-    ensures { IsUnknownError result }
+    ensures { IsUnknownError revision.now result }
 {
     match excerpt(alloc, revision.as_bytes()) {
         Ok(quoted) => RevisionError::Unknown { quoted },
@@ -186,7 +186,7 @@ fn unknown(alloc: Global, revision: &str) -> RevisionError
 }
 
 fn ambiguous(alloc: Global, revision: &str) -> RevisionError
-    ensures { IsAmbiguousError result }
+    ensures { IsAmbiguousError revision.now result }
 {
     match excerpt(alloc, revision.as_bytes()) {
         Ok(quoted) => RevisionError::Ambiguous { quoted },
@@ -208,7 +208,8 @@ pub fn resolve(
 ) -> Result<CommitId, RevisionError>
     // The commit is that of the ref, or without one the only commit with the prefix.
     ensures commit { IfOk result (IsNamed refs.now git_ids.now ids.now revision.now) }
-    // No ref has the name, and no commit has the prefix or several have it.
+    // No ref has the name, and no commit has the prefix or several have it; the error quotes the
+    // revision.
     ensures error { IfErr result (IsRevisionError refs.now git_ids.now ids.now revision.now) }
 {
     if let Some(id) = find_ref(alloc, refs, revision)? {
