@@ -15,12 +15,13 @@ use Rattle.jj_trees.specs.MemoryObjects.{MemoryBackendValue, objects_of}
 use Rattle.jj_mirror.specs.Entries.{LogEntryValue, entry_of, kind_name}
 use Rattle.jj_mirror.specs.Objects.{IsDigestTaken}
 use Rattle.jj_mirror.specs.declared.object_log.ObjectKind.{ObjectKind}
-use Rattle.jj_mirror.specs.Replays.{IsReplay, IsReplayError}
+use Rattle.jj_decode.specs.declared.error.DecodeError.{DecodeError}
+use Rattle.jj_mirror.specs.Replays.{IsReplay, IsReplayCause, IsReplayError}
 use Rattle.jj_mirror.proofs.ReplayedAgain.{Contains-taken, item_at}
 use Rattle.jj_mirror.specs.declared.error.ReplayError.{ReplayError}
 use Rattle.jj_mirror.specs.declared.error.ReplayError.TheVariants as replay
 use Rattle.jj_sqlite.specs.Inserts.{WasNewOrContains}
-use Rattle.jj_sqlite.specs.Opening.{IsOpenError, open_error, sqlite_error}
+use Rattle.jj_sqlite.specs.Opening.{IsOpenCause, IsOpenError, OnMalformed, open_error, sqlite_error}
 use Rattle.jj_sqlite.specs.Rows.{IsReadError, ShowsCount}
 use Rattle.jj_sqlite.specs.Tables.{HasEntries, count_statement, is_counted, log_row, log_rows, rows_after, select_statement}
 use Rattle.jj_sqlite.specs.Faults.{HasFault, HasOtherObject}
@@ -145,3 +146,23 @@ has_fault g old new entries e clean had fails = elim fails [
             subst (HasFault entries) (sym replayed.is_error) (of_replay entries replayed.cause (subst (λ (l : List LogEntryValue). IsReplayError l replayed.cause) read replayed.is_cause))
       ]
 ]
+
+-- if the log had these entries, the reason and the offset of a malformed one are those of decoding
+-- its bytes
+pub has_reason : {S : Type 0} (g : Ghosts S) (copy tree commit : List ℕ → ℕ → DecodeError → Type 0) (old new : Held S) (entries : List LogEntryValue) (e : OpenError) → HasCleanDisk (state g old)
+    → WasNewOrContains g old entries → IsOpenCause g copy tree commit old new e → OnMalformed e (IsReplayCause copy tree commit entries)
+has_reason g copy tree commit old new entries (Malformed kind id reason offset) clean had why =
+    let ran = why.1.1 in
+    let has : IsTrue (state g why.0).is_open → HasEntries (state g why.0) entries = creates (state g ran.0) (state g why.0) why.1.0 entries (λ _. unchanged_new (state g old) (state g ran.0) entries (had clean ran.1.0.was_open) ran.1) ran.2 in
+    let replayed = why.2 in
+    let are = replayed.are_read in
+    let read = reads (state g why.0) (state g are.read) replayed.rows replayed.entries entries (has (shown_open select_statement [] (state g why.0) (state g are.read) replayed.rows are.shown)) are.shown replayed.are_good in
+    subst (λ (l : List LogEntryValue). IsReplayCause copy tree commit l (replay.Malformed kind id reason offset)) read replayed.is_cause
+has_reason g copy tree commit old new entries Memory clean had why = tt
+has_reason g copy tree commit old new entries (Sqlite cause) clean had why = tt
+has_reason g copy tree commit old new entries Foreign clean had why = tt
+has_reason g copy tree commit old new entries (Gap count) clean had why = tt
+has_reason g copy tree commit old new entries (Lost count) clean had why = tt
+has_reason g copy tree commit old new entries (WrongObject kind id) clean had why = tt
+has_reason g copy tree commit old new entries (UnknownKind id) clean had why = tt
+has_reason g copy tree commit old new entries (Backend error) clean had why = tt

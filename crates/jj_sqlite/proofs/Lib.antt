@@ -6,3 +6,4 @@ pub mod Crashes
 pub mod Batches
 pub mod Reopened
 pub mod Faults
+pub mod Reasons

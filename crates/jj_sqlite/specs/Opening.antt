@@ -1,7 +1,7 @@
 -- A backend that was opened from the log of a database, and the errors of opening one.
--- Cited by contracts of public items: FailsToCreate, FailsToRead, IsCreated, IsOpenError, IsOpened,
--- IsRead, open_error, sqlite_error.
-use Rattle.std.specs.Prelude.{◌≡◌, ◌⊎◌, ℕ, List, [], length, false, true, Ok, Err}
+-- Cited by contracts of public items: FailsToCreate, FailsToRead, IsCreated, IsOpenCause,
+-- IsOpenError, IsOpened, IsRead, open_error, sqlite_error.
+use Rattle.std.specs.Prelude.{◌≡◌, ◌⊎◌, ⊤, ℕ, List, [], length, false, true, Ok, Err}
 use Rattle.std.specs.List.{AllZip}
 use Rattle.sqlite.specs.declared.error.Error.{Error}
 use Rattle.sqlite.specs.declared.error.Error.TheVariants.{SqliteFailure}
@@ -10,9 +10,10 @@ use Rattle.sqlite.specs.Order.{Row}
 use Rattle.sqlite.specs.Store.{Ghosts}
 use Rattle.sqlite.specs.State.{FailsToQuery, Shown}
 use Rattle.sqlite.specs.Held.{Held, state}
+use Rattle.jj_decode.specs.declared.error.DecodeError.{DecodeError}
 use Rattle.jj_trees.specs.MemoryObjects.{MemoryBackendValue}
 use Rattle.jj_mirror.specs.Entries.{LogEntryValue}
-use Rattle.jj_mirror.specs.Replays.{IsReplay, IsReplayError}
+use Rattle.jj_mirror.specs.Replays.{IsReplay, IsReplayCause, IsReplayError}
 use Rattle.jj_mirror.specs.declared.error.ReplayError.{ReplayError}
 use Rattle.jj_mirror.specs.declared.error.ReplayError.TheVariants as replay
 use Rattle.jj_sqlite.specs.Crashes.{RunsAsIs}
@@ -106,3 +107,26 @@ module _ {S : Type 0} (g : Ghosts S) (old new : Held S) where
   abbrev pub IsOpenError : OpenError → Type 0
   IsOpenError e = FailsToCreate g old new e ⊎ ((created : Held S) × IsCreated g old created
       × (FailsToRead g created new e ⊎ FailsToReplay g created new e))
+
+-- ---- the reason and the offset of a malformed entry
+
+-- P of the error of replaying, if the error of opening is that an entry is malformed
+abbrev pub OnMalformed : OpenError → (ReplayError → Type 0) → Type 0
+OnMalformed (Malformed kind id reason offset) P = P (replay.Malformed kind id reason offset)
+OnMalformed e P = ⊤
+
+-- the errors of reading a copy history, a tree and a commit
+module _ {S : Type 0} (g : Ghosts S) (copy tree commit : List ℕ → ℕ → DecodeError → Type 0) where
+  -- the rows of the table are read, and the reason and the offset of the error of replaying their
+  -- entries are those of decoding the bytes of the first one that cannot be replayed
+  pub record IsDecodingError (old new : Held S) (cause : ReplayError) : Type 0 where
+    pub rows : List Row
+    pub entries : List LogEntryValue
+    pub are_read : IsRead g old new rows
+    pub are_good : AllZip IsGoodRow rows entries
+    pub is_cause : IsReplayCause copy tree commit entries cause
+
+  -- if an entry is malformed, the reason and the offset are those of decoding its bytes
+  abbrev pub IsOpenCause : Held S → Held S → OpenError → Type 0
+  IsOpenCause old new e = OnMalformed e (λ cause. (created : Held S) × IsCreated g old created
+      × IsDecodingError created new cause)

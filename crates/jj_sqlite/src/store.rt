@@ -11,11 +11,14 @@ ghost use Rattle.jj_sqlite.specs.Inserts.{ContainsEntries, StoresEntries, WasNew
 ghost use Rattle.jj_sqlite.specs.Tables.{CountsRowsOf, HasOnlyRowsOf, IsForeign};
 ghost use Rattle.jj_sqlite.specs.Opening.{IsOpened, IsOpenError, IsReplayed};
 ghost use Rattle.jj_sqlite.specs.Opening.{FailsToRead, FailsToReplay};
+ghost use Rattle.jj_sqlite.specs.Opening.{IsDecodingError, IsOpenCause, OnMalformed};
 ghost use Rattle.jj_sqlite.specs.Opening.{sqlite_error};
 ghost use Rattle.jj_sqlite.specs.Closing.{CrashContains, FilesContain, IsBackup};
 
 use crate::error::OpenError;
 use crate::sqlite_log::SqliteLog;
+use jj_backend::backend::{Commit, CopyHistory, Tree};
+use jj_decode::read_content::ReadContent;
 use jj_mirror::mirrored::Mirrored;
 use jj_mirror::replay::replay;
 use jj_trees::memory_backend::MemoryBackend;
@@ -43,6 +46,10 @@ fn replay_log<S: Alter>(alloc: Global, log: &mut SqliteLog<S>) -> Result<MemoryB
     ensures error { HasCleanDisk (state S.Store log.new.conn) → IfErr result (λ e.
         FailsToRead S.Store log.old.conn log.new.conn e
         ⊎ FailsToReplay S.Store log.old.conn log.new.conn e) }
+    ensures cause { HasCleanDisk (state S.Store log.new.conn) → IfErr result (λ e. OnMalformed e
+        (IsDecodingError S.Store ⟦<CopyHistory as ReadContent>⟧.errors
+        ⟦<Tree as ReadContent>⟧.errors ⟦<Commit as ReadContent>⟧.errors
+        log.old.conn log.new.conn)) }
 {
     let entries = log.read_entries(alloc)?;
     let backend = replay(alloc, &entries)?;
@@ -96,6 +103,10 @@ pub fn open_store<S: Alter>(
     // An error is that of creating the table, of reading its rows, or of replaying their entries.
     ensures error { IfErr result (λ e. HasCleanDisk (state S.Store e.1)
         → IsOpenError S.Store conn e.1 e.0) }
+    // The reason and the offset of a malformed entry are those of decoding its bytes as its kind.
+    ensures cause { IfErr result (λ e. HasCleanDisk (state S.Store e.1)
+        → IsOpenCause S.Store ⟦<CopyHistory as ReadContent>⟧.errors
+        ⟦<Tree as ReadContent>⟧.errors ⟦<Commit as ReadContent>⟧.errors conn e.1 e.0) }
     // A database of another program is not opened.
     ensures own { OnOk result (¬ (IsForeign (state S.Store conn).now.schema)) }
 {

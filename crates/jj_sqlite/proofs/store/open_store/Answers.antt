@@ -2,6 +2,7 @@ use Rattle.std.proofs.Common.{inr, sym, subst}
 use Rattle.sqlite.specs.Held.{state}
 use Rattle.sqlite.specs.State.{HasCleanDisk}
 use Rattle.jj_sqlite.specs.Opening.{IsOpenError}
+use Rattle.jj_sqlite.proofs.Reasons.{of_opened}
 use Rattle.jj_sqlite.proofs.store.open_store.Goals as goal
 
 pub returns-in-Ok-replay_log-clause-ok : goal.returns-in-Ok-replay_log-clause-ok
@@ -30,3 +31,8 @@ pub returns-in-Err-replay_log-clause-error : goal.returns-in-Err-replay_log-clau
 returns-in-Err-replay_log-clause-error g c =
     subst (λ conn. HasCleanDisk (state g.S.Store conn) → IsOpenError g.S.Store c.args.conn conn c.in-Err-replay_log.error) (sym c.into_connection.ensures)
     (λ clean. inr (c.in-Ok.log.conn, c.in-Ok.ensures.ok (c.replay_log.ensures.clean clean), c.in-Err-replay_log.ensures.error clean))
+
+pub returns-in-Err-replay_log-clause-cause : goal.returns-in-Err-replay_log-clause-cause
+returns-in-Err-replay_log-clause-cause g c =
+    of_opened g.S.Store _ _ _ c.args.conn c.in-Ok.log.conn c.replay_log.new.log.conn c.into_connection.result c.in-Err-replay_log.error c.into_connection.ensures
+    (λ clean. c.in-Ok.ensures.ok (c.replay_log.ensures.clean clean)) c.in-Err-replay_log.ensures.cause
