@@ -1,15 +1,16 @@
 -- The entries of a log in closed files and after a crash.
 -- Cited by contracts of public items: CrashLeaves, HasReplayAfterCrash, HasWith, IsLoaded,
--- MayContain, SavesEntry, file_entry.
+-- IsLoadedFromFiles, IsRereadFrom, MayContain, SavesEntry, file_entry.
 use Rattle.std.specs.Prelude.{◌≡◌, ◌⊎◌, ◌++◌, ◌∷◌, [], ℕ, List, Contains, Some}
 use Rattle.sqlite_wal.specs.Recovery.{Image}
 use Rattle.sqlite_disk.specs.declared.Disk.{Ghosts}
 use Rattle.sqlite_disk.specs.declared.Files.{Files}
 use Rattle.sqlite_store.specs.declared.store.FileStore.{FileStore}
 use Rattle.sqlite_store.specs.FileStore as store
-use Rattle.sqlite.specs.Files.{Finds, HoldsDatabase, over_files}
+use Rattle.sqlite.specs.Files.{file_state, Finds, HoldsDatabase, over_files}
 use Rattle.sqlite.specs.Files as database
 use Rattle.sqlite.specs.Held.{Held}
+use Rattle.sqlite.specs.State.{HasCleanDisk}
 use Rattle.sqlite.specs.Tree.{Trees}
 use Rattle.jj_backend.specs.Objects.{file_object}
 use Rattle.jj_backend.specs.Records.{CommitValue}
@@ -18,6 +19,7 @@ use Rattle.jj_mirror.specs.Replays.{IsReplay}
 use Rattle.jj_trees.specs.MemoryObjects.{MemoryBackendValue, objects_of}
 use Rattle.jj_sqlite.specs.Closing.{CrashContains, FilesContain, IsBackup}
 use Rattle.jj_sqlite.specs.Crashes.{HasLogAfterCrash}
+use Rattle.jj_sqlite.specs.Inserts.{WasNewOrContains}
 use Rattle.jj_sqlite.specs.Opening.{IsOpened}
 
 -- the entry of a file
@@ -46,6 +48,19 @@ pub record IsLoaded {D : Type 0} (g : Ghosts D) (files : Files D) (conn : Held (
   pub is_open : database.IsOpened opened
   pub is_replay : IsOpened over_files opened conn backend
   pub found : (objects_of backend).commits id ≡ Some commit
+
+-- the commit was read from files under this id, on the connection
+abbrev pub IsLoadedFromFiles : {D : Type 0} (g : Ghosts D) → Held (FileStore D g) → List ℕ
+    → CommitValue → Type 0
+IsLoadedFromFiles {D} g conn id commit = (files : Files D) × IsLoaded g files conn id commit
+
+-- A connection was opened on the files. If their database was new or had the entries of a log, the
+-- commit that was read is the one that was written.
+abbrev pub IsRereadFrom : {D : Type 0} (g : Ghosts D) → CommitValue → CommitValue → Type 0
+IsRereadFrom {D} g written read = (opened : Held (FileStore D g))
+    × (HasCleanDisk (file_state opened) → database.IsOpened opened)
+    × ((entries : List LogEntryValue) → WasNewOrContains over_files opened entries
+    → read ≡ written)
 
 -- this content of the files is the database of a log with these entries, and at most one more,
 -- whose write failed

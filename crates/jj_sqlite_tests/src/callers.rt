@@ -10,17 +10,18 @@ ghost use Rattle.jj_backend.specs.Objects.{commit_object};
 ghost use Rattle.jj_backend.specs.Records.{CommitValue};
 ghost use Rattle.jj_mirror.specs.Entries.{LogEntryValue, entry_of};
 ghost use Rattle.jj_mirror.specs.Logs.{WithEntry};
-ghost use Rattle.jj_mirror.specs.Replays.{IsReplay};
+ghost use Rattle.jj_mirror.specs.Replays.{IsReplay, IsReplayCause};
 ghost use Rattle.jj_sqlite.specs.Inserts.{ContainsEntries, StoresEntries, WasNewOrContains};
 ghost use Rattle.jj_sqlite.specs.Rows.{HasDigest};
 ghost use Rattle.jj_sqlite.specs.Faults.{HasFault};
 ghost use Rattle.jj_sqlite.specs.Closing.{CrashContains, FilesContain, IsBackup};
-ghost use Rattle.jj_sqlite.specs.Opening.{IsOpened};
+ghost use Rattle.jj_sqlite.specs.Opening.{IsOpened, OnMalformed};
 ghost use Rattle.jj_sqlite.specs.Tables.{CountsRowsOf, HasOnlyRowsOf};
 ghost use Rattle.jj_sqlite_tests.specs.SavedFiles.{HasWith, IsLoaded, SavesEntry};
 ghost use Rattle.jj_trees.specs.MemoryObjects.{MemoryBackendValue, objects_of};
 
-use jj_backend::backend::{Backend, BackendResult, Commit, CommitId, NoSigner};
+use jj_backend::backend::{Backend, BackendResult, Commit, CommitId, CopyHistory, NoSigner, Tree};
+use jj_decode::read_content::ReadContent;
 use jj_mirror::mirrored::Mirrored;
 use jj_sqlite::error::OpenError;
 use jj_sqlite::sqlite_log::SqliteLog;
@@ -218,6 +219,12 @@ pub fn check_objects<S: Alter>(
     ensures error { HasCleanDisk (state S.Store conn) → HasCleanDisk (state S.Store result.1)
         → IfErr result.0 (λ e. (entries : List LogEntryValue)
         → WasNewOrContains S.Store conn entries → HasFault entries e) }
+    // The reason and the offset of a malformed entry are those of decoding its bytes as its kind.
+    ensures reason { HasCleanDisk (state S.Store conn) → HasCleanDisk (state S.Store result.1)
+        → IfErr result.0 (λ e. (entries : List LogEntryValue)
+        → WasNewOrContains S.Store conn entries → OnMalformed e (IsReplayCause
+        ⟦<CopyHistory as ReadContent>⟧.errors ⟦<Tree as ReadContent>⟧.errors
+        ⟦<Commit as ReadContent>⟧.errors entries)) }
 {
     match open_store(alloc, conn) {
         Ok(store) => {

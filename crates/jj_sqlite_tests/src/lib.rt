@@ -4,3 +4,4 @@
 pub mod batches;
 pub mod callers;
 pub mod crashes;
+pub mod stored_files;
