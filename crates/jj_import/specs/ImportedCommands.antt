@@ -1,10 +1,11 @@
 -- The commands of a stream, by what they make of the state of an import.
--- Cited by contracts of public items: AreCommandsImported, IsCommandImported, IsWithinLimit,
--- commits_in.
+-- Cited by contracts of public items: AreCommandsImported, AreCommandsRead, HasEnded,
+-- IsCommandImported, IsDoneRead, IsWithinLimit, commits_in.
 use Rattle.std.specs.Prelude.{◌≡◌, ◌≤◌, ◌+◌, ◌⊎◌, ℕ, Bool, true, false, List, [], ◌∷◌, ◌++◌, codes, Option, Some, None, Result, Ok, Err}
 use Rattle.std.specs.Option.{option_map}
 use Rattle.jj_backend.specs.Objects.{Objects}
 use Rattle.jj_fast_import.specs.Values.{CommandValue, Blobs, Commits, Tags, Resets, Features, Options, Progresses, Checkpoints, Ends, TagValue}
+use Rattle.jj_fast_import.specs.Streams.{AreReadFrom, HasNoCommand, ends_in_done}
 use Rattle.jj_import.specs.Imported.{imported_string}
 use Rattle.jj_import.specs.ImportStates.{ImportState, IsBlob, IsReference, IsStoredCommit, with_blob, with_commit, with_ref, without_ref}
 
@@ -60,3 +61,23 @@ abbrev pub IsWithinLimit : {E : Type 0} → ℕ → ℕ → Result Bool E → Ty
 IsWithinLimit limit commits (Ok false) = commits ≡ limit
 IsWithinLimit limit commits (Ok true) = commits ≤ limit
 IsWithinLimit limit commits (Err error) = commits ≤ limit
+
+-- `done` is the last of the commands, or was read before, and then there are none
+abbrev pub IsDoneRead : Bool → List CommandValue → Type 0
+IsDoneRead was_done commands =
+    (ends_in_done commands ≡ true) ⊎ ((was_done ≡ true) × (commands ≡ []))
+
+-- `done` was read, or no command is after them
+abbrev pub HasEnded : Bool → List CommandValue → Option (List ℕ) → Type 0
+HasEnded was_done commands after = IsDoneRead was_done commands ⊎ HasNoCommand after
+
+-- The commands are those of the earlier bytes of a stream, one after the other, up to the later
+-- ones, if the bytes are known, and all of them if it has ended; after an error, up to some bytes.
+abbrev pub AreCommandsRead : {E : Type 0} → Bool → Bool → Option (List ℕ) → Option (List ℕ)
+    → Result Bool E → List CommandValue → Type 0
+AreCommandsRead was_done is_done before after (Ok false) commands =
+    AreReadFrom before after commands × (is_done ≡ true → IsDoneRead was_done commands)
+AreCommandsRead was_done is_done before after (Ok true) commands =
+    AreReadFrom before after commands × HasEnded was_done commands after
+AreCommandsRead was_done is_done before after (Err error) commands =
+    (between : Option (List ℕ)) × AreReadFrom before between commands

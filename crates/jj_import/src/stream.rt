@@ -1,10 +1,12 @@
 //! Import of the commands of a reader, as many commits at a time as are asked for.
-ghost use Rattle.std.specs.Prelude.{◌≡◌, ◌+◌, ◌<◌, List, IfOk, OnErr};
+ghost use Rattle.std.specs.Prelude.{◌≡◌, ◌⊎◌, ◌+◌, ◌<◌, List, IfNone, IfOk, IfSome, OnErr, true};
+ghost use Rattle.std.specs.Io.KnownBytes.{Keeps};
 ghost use Rattle.std.specs.Option.{MatchOption};
 ghost use Rattle.jj_backend.specs.Objects.{Objects};
+ghost use Rattle.jj_fast_import.specs.Streams.{HasNoCommand, IsReadFrom, is_done, is_end, unread_bytes};
 ghost use Rattle.jj_fast_import.specs.Values.{CommandValue, command_value};
 ghost use Rattle.jj_import.specs.ImportStates.{state_of};
-ghost use Rattle.jj_import.specs.ImportedCommands.{AreCommandsImported, IsCommandImported, IsWithinLimit, commits_in, count_of};
+ghost use Rattle.jj_import.specs.ImportedCommands.{AreCommandsImported, AreCommandsRead, IsCommandImported, IsWithinLimit, commits_in, count_of};
 ghost use Rattle.jj_import.specs.Stored.{IsExtended};
 
 use crate::error::ImportError;
@@ -40,6 +42,15 @@ fn import_next<R: Source, B: Backend>(
         (state_of importer.new ≡ state_of importer.old)
         (λ command. IsCommandImported objects (B.fixed backend.old).root_commit_id
         (command_value command) (state_of importer.old) (state_of importer.new))) }
+    ensures read { IfOk result (λ command. IfSome command (λ command. IsReadFrom
+        (unread_bytes R.remaining reader.old) (unread_bytes R.remaining reader.new)
+        (command_value command))) }
+    ensures kept { IfOk result (λ command. IfNone command (Keeps
+        (unread_bytes R.remaining reader.old) (unread_bytes R.remaining reader.new))) }
+    ensures end { IfOk result (λ command. IfNone command
+        ((is_done reader.old ≡ true) ⊎ HasNoCommand (unread_bytes R.remaining reader.new))) }
+    ensures done { IfOk result (λ command. IfSome command (λ command.
+        is_done reader.new ≡ is_end (command_value command))) }
     ensures unchanged { OnErr result (state_of importer.new ≡ state_of importer.old) }
     ensures objects { IsExtended (B.objects backend.old) (B.objects backend.new) }
     ensures fixed { B.fixed backend.new ≡ B.fixed backend.old }
@@ -80,12 +91,17 @@ pub fn import_commands<R: Source, B: Backend>(
     limit: usize,
 ) -> Result<bool, StreamError>
     // At the end, at the limit and at an error, commands have made the later state of the earlier
-    // one, in order: as many commits as the limit, or fewer if the stream ended or failed.
+    // one, in order: as many commits as the limit, or fewer if the stream ended or failed. They are
+    // those of the stream's unread bytes, one after the other: at the end all of them, at the limit
+    // those before the bytes that are unread afterwards, and at an error those before some bytes.
     ensures imported { (commands : List CommandValue)
         × IsWithinLimit limit (commits_in commands) result
         × ((objects : Objects) → IsExtended (B.objects backend.new) objects
         → AreCommandsImported objects (B.fixed backend.old).root_commit_id commands
-        (state_of importer.old) (state_of importer.new)) }
+        (state_of importer.old) (state_of importer.new))
+        × AreCommandsRead (is_done reader.old) (is_done reader.new)
+        (unread_bytes R.remaining reader.old) (unread_bytes R.remaining reader.new)
+        result commands }
     // The backend has each object that it had.
     ensures objects { IsExtended (B.objects backend.old) (B.objects backend.new) }
     ensures fixed { B.fixed backend.new ≡ B.fixed backend.old }
