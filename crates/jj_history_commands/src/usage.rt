@@ -10,7 +10,7 @@ pub const SYNOPSIS: &str = "usage: jj-history DATABASE COMMAND [OPERAND..]\n";
 pub const HELP: &str = "
 Keeps the history of a Git repository in an SQLite database, and answers questions about it.
 
-  git fast-export --all --show-original-ids | jj-history repo.db import
+  git fast-export --all --show-original-ids --use-done-feature | jj-history repo.db import
   jj-history repo.db log -r main
 
   import                      reads a stream of git fast-export, and continues an earlier import
