@@ -1,2 +1,3 @@
 mod Selected
 mod KnownObjects
+mod Differences

@@ -21,6 +21,11 @@ AreChangesIn trees before after set changes = (change : Change) → Contains cha
     × (change.after ≡ files_at trees (Some (Tree after)) change.path)
     × (change.before ≢ change.after) × IsInSet set change.path)
 
+-- the files of two trees differ at a path of the set
+abbrev pub DifferIn : ById Entries → List ℕ → List ℕ → Option SyntaxTree → Type 0
+DifferIn trees before after set = (path : Path) × IsInSet set path
+    × (files_at trees (Some (Tree before)) path ≢ files_at trees (Some (Tree after)) path)
+
 -- an element is appended if it is in the set
 abbrev pub Selects : {X : Type 0} → (X → Type 0) → X → List X → List X → Type 0
 Selects InSet x old new = (InSet x × (new ≡ old ++ x ∷ [])) ⊎ ((¬ InSet x) × (new ≡ old))

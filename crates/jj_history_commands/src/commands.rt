@@ -1,4 +1,10 @@
 //! The commands that read a history.
+ghost use Rattle.std.specs.Prelude.{◌++◌, ℕ, List, OnOk};
+ghost use Rattle.std.specs.BTreeMap.{values};
+ghost use Rattle.jj_store_walks.specs.Histories.{IsHistoryOrder};
+ghost use Rattle.jj_store_walks.specs.declared.read_commit.ReadCommit.{ReadCommit as ReadCommitValue};
+ghost use Rattle.jj_history_commands.specs.FoundObjects.{AreWhole, HasTrees};
+
 use crate::arguments::Command;
 use crate::changes::compare_commits;
 use crate::checks::{ObjectCounts, check_history};
@@ -186,11 +192,16 @@ pub fn check_all<B: Backend>(
     store: &B,
     refs: &BTreeMap<String, CommitId>,
     git_ids: &BTreeMap<String, CommitId>,
-) -> Result<String, CommandError> {
+) -> Result<String, CommandError>
+    // The store has the commits that the refs and Git's ids name, their ancestors, the trees of
+    // these with all subtrees, and all files and symbolic links that these name.
+    ensures { OnOk result ((commits : List ReadCommitValue) × (trees : List (List ℕ))
+        × IsHistoryOrder (B.objects store.now) (values refs.now ++ values git_ids.now) commits
+        × HasTrees trees commits × AreWhole (B.objects store.now) trees) }
+{
     let mut starts = values(alloc, refs)?;
-    for id in git_ids.values() {
-        starts.push(id.clone()?)?;
-    }
+    let mut others = values(alloc, git_ids)?;
+    starts.append(&mut others)?;
     let counts = check_history(alloc, store, &starts)?;
     let line = count_line(alloc, &counts)?;
     Ok(line)

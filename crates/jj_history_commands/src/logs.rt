@@ -1,4 +1,7 @@
 //! Logs of the commits that change files of a set.
+ghost use Rattle.std.specs.Prelude.{◌↔◌, IfOk, IsTrue};
+ghost use Rattle.jj_history_commands.specs.FileSets.{DifferIn};
+
 use crate::changes::changes_in;
 use crate::error::CommandError;
 use jj_backend::backend::{Backend, Commit, TreeId};
@@ -25,13 +28,17 @@ fn differs_from<B: Backend>(
     }
 }
 
+// Returns whether two trees have different files at a path of the set.
 fn differ<B: Backend>(
     alloc: Global,
     store: &B,
     before: &TreeId,
     after: &TreeId,
     files: &FilesetExpression,
-) -> Result<bool, CommandError> {
+) -> Result<bool, CommandError>
+    ensures { IfOk result (λ differ. IsTrue differ
+        ↔ DifferIn (B.objects store.now).trees before.now after.now (Some files.now)) }
+{
     let changes = changes_in(alloc, store, before, after, Some(files))?;
     Ok(!changes.is_empty())
 }
