@@ -1,6 +1,6 @@
 -- Selections of a list, one element after the other, and their order.
-use Rattle.std.proofs.Common.{◌≡◌, ◌⊎◌, ℕ, ◌<◌, ◌+◌, zero, suc, List, [], ◌∷◌, ◌++◌, arith, inl, inr, sym, subst}
-use Rattle.std.specs.Prelude.{All, AllPairs, length, slice_index_or}
+use Rattle.std.proofs.Common.{zero, suc, List, [], ◌∷◌, ◌++◌, arith, inl, inr, sym, subst}
+use Rattle.std.specs.Prelude.{All, AllPairs}
 use Rattle.std.proofs.lemmas.List.Elements.{All-cons, All-head, All-tail}
 use Rattle.std.proofs.lemmas.List.Kept.{AllPairs-cons}
 use Rattle.jj_filesets.specs.Selection.{IsSelected, none, takes, leaves}

@@ -1,7 +1,6 @@
 -- Trees that a store has with all that they lead to.
 -- Cited by contracts of public items: AreWhole, HasTrees.
 use Rattle.std.specs.Prelude.{◌≡◌, ℕ, List, ◌++◌, All, Contains, Some}
-use Rattle.jj_paths.specs.Paths.{Name}
 use Rattle.jj_backend.specs.Objects.{Objects}
 use Rattle.jj_backend.specs.Trees.{Entries}
 use Rattle.jj_backend.specs.declared.backend.tree_value.TreeValue.{TreeValue}

@@ -1,6 +1,6 @@
 -- The commits that operands of a command name, and the contents of their files.
 -- Cited by contracts of public items: IsCommitOf, IsContentOf.
-use Rattle.std.specs.Prelude.{◌≡◌, ◌≢◌, ◌⊎◌, ◌∷◌, ℕ, List, [], Some, None}
+use Rattle.std.specs.Prelude.{◌≡◌, ◌≢◌, ◌⊎◌, ℕ, List, [], Some, None}
 use Rattle.std.specs.BTreeMap.{btree_map_len, values}
 use Rattle.jj_paths.specs.Paths.{components}
 use Rattle.jj_backend.specs.Objects.{Objects}

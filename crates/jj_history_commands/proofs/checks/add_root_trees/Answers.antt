@@ -1,4 +1,4 @@
-use Rattle.std.proofs.Common.{ℕ, List, Contains, subst, sym, take}
+use Rattle.std.proofs.Common.{ℕ, List, Contains, subst}
 use Rattle.std.specs.Prelude.{All}
 use Rattle.std.proofs.lemmas.List.{take_all}
 use Rattle.jj_store_walks.specs.declared.read_commit.ReadCommit.{ReadCommit}
