@@ -1,0 +1,5 @@
+//! A proved caller of `resolve`.
+#![tactic(auto)]
+
+#[cfg(test)]
+pub mod callers;
