@@ -9,7 +9,7 @@ pub(crate) struct Outcome {
     pub(crate) times: u64,
 }
 
-// The outcomes, in the order in which they were met first.
+// The outcomes, in the order of their first occurrence.
 #[derive(Drop)]
 pub(crate) struct Outcomes {
     pub(crate) counts: Vec<Outcome>,

@@ -1,4 +1,4 @@
-//! A proved caller of `resolve`: what the message of an error quotes.
+//! A proved caller of `resolve`: the revision that an error quotes.
 ghost use Rattle.std.specs.Prelude.{◌≡◌, IfOk, IfSome, None, string_bytes};
 ghost use Rattle.jj_excerpts.specs.Excerpts.{excerpt_of};
 ghost use Rattle.jj_history.specs.Revisions.{ref_commit};

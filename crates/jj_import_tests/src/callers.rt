@@ -13,8 +13,8 @@ use jj_import::stream::{StreamError, import_commands};
 use jj_trees::memory_backend::MemoryBackend;
 use std::alloc::Global;
 
-/// Imports a stream, up to its end or to an error. Each commit of it, or of what is before the
-/// error, is then in the store, with its parents in order, author, committer and message, and at
+/// Imports a stream, up to its end or to an error. Each commit of the stream, if there is an error
+/// up to it, is then in the store, with its parents in order, author, committer and message, and at
 /// each path with the file that its changes leave there, and with no other; one with the ID in Git
 /// of an earlier commit is that commit. The importer has the refs as the stream sets them.
 pub fn import_stream(
