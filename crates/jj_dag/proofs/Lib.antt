@@ -34,6 +34,7 @@ pub mod Postorders
 pub mod Renumbered
 pub mod ClosureGraphs
 pub mod NodeGraphs
+pub mod NamedNodes
 pub mod ListNumbers
 pub mod SortedResults
 pub mod ArrayGraphs

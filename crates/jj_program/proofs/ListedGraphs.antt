@@ -9,6 +9,7 @@ use Rattle.std.proofs.lemmas.List.{get_or-map, get_or_past, length-map}
 use Rattle.std.proofs.lemmas.List.Elements.{Contains-get_or}
 use Rattle.jj_dag.specs.CommonNodes.{AreClosestCommon}
 use Rattle.jj_dag.specs.Graph.{Graph, AreMaximalElements, IsGreatestTopologicalOrder}
+use Rattle.jj_dag.proofs.NamedNodes.{reached_within}
 use Rattle.jj_dag.proofs.Relabelled.{Contains-map}
 use Rattle.jj_program.specs.declared.listed_graph.ListedGraph.{ListedGraph}
 use Rattle.jj_program.specs.GraphCommand.{HasCycle}
@@ -56,7 +57,7 @@ module _ (listed : ListedGraph) where
   pub order_within : (starts order given : List ℕ) → map name starts ≡ given → All (Contains ids) given → IsGreatestTopologicalOrder (numbered_by listed) starts order
       → All (λ number. number < length ids) order
   order_within starts order given same named best k d within =
-      renamed.reached_within (numbered_by listed) (length ids) listed.within starts (numbers_within ids starts given same named) (get_or order k d)
+      reached_within (numbered_by listed) (length ids) listed.within starts (numbers_within ids starts given same named) (get_or order k d)
       ((best.child_first.all (get_or order k d)).0 (Contains-get_or order k d within))
 
   pub heads_within : (starts heads given : List ℕ) → map name starts ≡ given → All (Contains ids) given → AreMaximalElements (numbered_by listed) starts heads
@@ -67,7 +68,7 @@ module _ (listed : ListedGraph) where
   pub common_within : (set1 set2 common given : List ℕ) → map name set1 ≡ given → All (Contains ids) given → AreClosestCommon (numbered_by listed) set1 set2 common
       → All (λ number. number < length ids) common
   common_within set1 set2 common given same named found k d within =
-      renamed.reached_within (numbered_by listed) (length ids) listed.within set1 (numbers_within ids set1 given same named) (get_or common k d)
+      reached_within (numbered_by listed) (length ids) listed.within set1 (numbers_within ids set1 given same named) (get_or common k d)
       ((found.all (get_or common k d)).0 (Contains-get_or common k d within)).0.0
 
   -- their ids ascend

@@ -7,6 +7,8 @@ use Rattle.std.proofs.lemmas.Bool.{cases_lt}
 use Rattle.std.proofs.lemmas.List.{append_cancel_left, get_or-map, length-map, map-append}
 use Rattle.jj_dag.specs.CommonNodes.{AreClosestCommon, IsCommon}
 use Rattle.jj_dag.specs.Graph.{Graph, AreMaximalElements, IsGreatestTopologicalOrder, IsMaximal, IsTopologicalOrder, IsWalkOfLength, Precedes, ReachedFrom, StrictlyReaches}
+use Rattle.jj_dag.specs.NodeGraph.{AreMaximalNodes, IsCommonNode, IsMaximalNode, NodePath, ReachesNode}
+use Rattle.jj_dag.proofs.NamedNodes as nodes
 use Rattle.jj_dag.proofs.Reaching.{Contains-split}
 use Rattle.jj_dag.proofs.ReadyOrders.{at_split, distinct, here, later, twice}
 use Rattle.jj_dag.proofs.Relabelled.{Contains-map, Contains-unmap, split_map}
@@ -20,14 +22,29 @@ ascending_named name rises xs up k inside =
     let second = get_or-map name xs (k + 1) 0 0 (omega arith) in
     omega (arith, first, second, rises (get_or xs k 0) (get_or xs (k + 1) 0) (up k (omega arith)))
 
--- if all edges are between the first n numbers, these reach no other number
-module _ (numbers : Graph) (n : ℕ) (within : (a b : ℕ) → Contains (numbers a) b → (a < n) × (b < n)) where
-  stays : (steps a b : ℕ) → a < n → IsWalkOfLength numbers a b steps → b < n
-  stays zero a b inside p = subst (λ c. c < n) p inside
-  stays (suc steps) a b inside (next, edge, p) = stays steps next b (within a next edge).1 p
+-- ---- the words of numbers and those of nodes
 
-  pub reached_within : (starts : List ℕ) → ((a : ℕ) → Contains starts a → a < n) → (a : ℕ) → ReachedFrom numbers starts a → a < n
-  reached_within starts inside a (b, among, (steps, p)) = stays steps b a (inside b among) p
+path_of : (g : Graph) (steps a b : ℕ) → IsWalkOfLength g a b steps → NodePath g a b steps
+path_of g zero a b p = p
+path_of g (suc steps) a b (next, edge, p) = (next, edge, path_of g steps next b p)
+
+walk_of : (g : Graph) (steps a b : ℕ) → NodePath g a b steps → IsWalkOfLength g a b steps
+walk_of g zero a b p = p
+walk_of g (suc steps) a b (next, edge, p) = (next, edge, walk_of g steps next b p)
+
+reached_node : (g : Graph) (starts : List ℕ) (a : ℕ) → ReachedFrom g starts a ↔ ReachesNode g starts a
+reached_node g starts a = (λ (b, among, (steps, p)). (b, among, (steps, path_of g steps b a p)), λ (b, among, (steps, p)). (b, among, (steps, walk_of g steps b a p)))
+
+maximal_number : (g : Graph) (P Q : ℕ → Type 0) → ((a : ℕ) → P a ↔ Q a) → (a : ℕ) → IsMaximalNode g Q a ↔ IsMaximal g P a
+maximal_number g P Q same a = (
+  (λ (is, none). ((same a).1 is, λ b member differ (steps, p). none b ((same b).0 member) differ (steps, path_of g (suc steps) b a p))),
+  λ (is, none). ((same a).0 is, λ b member differ (steps, p). none b ((same b).1 member) differ (steps, walk_of g (suc steps) b a p)),
+)
+
+maximal_numbers : (g : Graph) (P Q : ℕ → Type 0) → ((a : ℕ) → P a ↔ Q a) → (xs : List ℕ) → AreMaximalNodes g Q xs → (a : ℕ) → Contains xs a ↔ IsMaximal g P a
+maximal_numbers g P Q same xs found a =
+    let k = maximal_number g P Q same a in
+    (λ among. k.0 ((found.all a).0 among), λ is. (found.all a).1 (k.1 is))
 
 -- `named` is the graph of the names of the first n numbers
 module _ (numbers named : Graph) (name : ℕ → ℕ) (n : ℕ) (rises : (i j : ℕ) → i < j → name i < name j)
@@ -107,7 +124,7 @@ module _ (numbers named : Graph) (name : ℕ → ℕ) (n : ℕ) (rises : (i j : 
       let m = numbered c next edge in
       let q = walk_down steps m.0 c m.1 (subst (λ (b : ℕ). IsWalkOfLength named b c steps) (sym m.2) way) in
       let cycle : StrictlyReaches named c c = (steps, (next, edge, way)) in
-      (q.0, strictly_down q.0 q.0 (stays numbers n within steps m.0 q.0 m.1 q.2) (subst (λ (b : ℕ). StrictlyReaches named b b) (sym q.1) cycle))
+      (q.0, strictly_down q.0 q.0 (nodes.stays numbers n within steps m.0 q.0 m.1 q.2) (subst (λ (b : ℕ). StrictlyReaches named b b) (sym q.1) cycle))
 
   -- ---- what some numbers reach
 
@@ -125,66 +142,23 @@ module _ (numbers named : Graph) (name : ℕ → ℕ) (n : ℕ) (rises : (i j : 
 
   -- ---- maximal elements
 
-  -- names of members, if the numbers of the members are below n
-  abbrev AreNames : (ℕ → Type 0) → (ℕ → Type 0) → Type 0
-  AreNames P Q = record {
-    inside : (a : ℕ) → P a → a < n;
-    up : (a : ℕ) → P a → Q (name a);
-    down : (c : ℕ) → Q c → (a : ℕ) × (name a ≡ c) × P a;
-  }
-
-  maximal_up : (P Q : ℕ → Type 0) → AreNames P Q → (a : ℕ) → IsMaximal numbers P a → IsMaximal named Q (name a)
-  maximal_up P Q k a (is, none) = (
-    k.up a is,
-    λ c member differ reaches.
-        let m = k.down c member in
-        none m.0 m.2 (λ same. differ (sym m.1 ∙ ap name same)) (strictly_down m.0 a (k.inside m.0 m.2) (subst (λ (b : ℕ). StrictlyReaches named b (name a)) (sym m.1) reaches)),
-  )
-
-  maximal_down : (P Q : ℕ → Type 0) → AreNames P Q → (c : ℕ) → IsMaximal named Q c → (a : ℕ) × (name a ≡ c) × IsMaximal numbers P a
-  maximal_down P Q k c (is, none) =
-      let m = k.down c is in (
-        m.0,
-        m.1,
-        (
-          m.2,
-          λ b member differ reaches. none (name b) (k.up b member) (λ same. differ (one_to_one b m.0 (same ∙ sym m.1)))
-              (subst (λ (a : ℕ). StrictlyReaches named (name b) a) m.1 (strictly_up b m.0 reaches)),
-        ),
-      )
-
-  maximal_named : (P Q : ℕ → Type 0) → AreNames P Q → (found : List ℕ) → ((a : ℕ) → Contains found a ↔ IsMaximal numbers P a) → (c : ℕ) → Contains (map name found) c ↔ IsMaximal named Q c
-  maximal_named P Q k found all c = (
-    (λ among.
-        let m = Contains-unmap name found c among in
-        subst (IsMaximal named Q) m.2 (maximal_up P Q k m.0 ((all m.0).0 m.1))),
-    λ is.
-        let m = maximal_down P Q k c is in
-        subst (Contains (map name found)) m.1 (Contains-map name found m.0 ((all m.0).1 m.2)),
-  )
-
   pub heads_named : (starts heads : List ℕ) → AreNumbers starts → AreMaximalElements numbers starts heads → AreMaximalElements named (map name starts) (map name heads)
-  heads_named starts heads inside of_heads = record {
-    all = maximal_named (Contains starts) (Contains (map name starts))
-        (record { inside = inside; up = λ a among. Contains-map name starts a among; down = λ c among. let m = Contains-unmap name starts c among in (m.0, m.2, m.1) })
-        heads of_heads.all;
-    once = distinct_named heads of_heads.once;
+  heads_named starts heads inside found = record {
+    all = maximal_numbers named (Contains (map name starts)) (Contains (map name starts)) (λ a. (λ among. among, λ among. among)) (map name heads)
+        (nodes.heads_named numbers named name n (λ a b below_a below_b. one_to_one a b) within edges starts heads inside found);
+    once = distinct_named heads found.once;
   }
 
-  pub closest_named : (set1 set2 found : List ℕ) → AreNumbers set1 → AreNumbers set2 → AreClosestCommon numbers set1 set2 found
-      → AreClosestCommon named (map name set1) (map name set2) (map name found)
-  closest_named set1 set2 found inside1 inside2 of_found = record {
-    all = maximal_named (IsCommon numbers set1 set2) (IsCommon named (map name set1) (map name set2))
-        (record {
-          inside = λ a is. reached_within numbers n within set1 inside1 a is.0;
-          up = λ a is. (reached_up set1 a is.0, reached_up set2 a is.1);
-          down = λ c is.
-              let one = reached_down set1 c inside1 is.0 in
-              let other = reached_down set2 c inside2 is.1 in
-              (one.0, one.1, (one.2, subst (ReachedFrom numbers set2) (one_to_one other.0 one.0 (other.1 ∙ sym one.1)) other.2));
-        })
-        found of_found.all;
-    once = distinct_named found of_found.once;
+  pub closest_named : (set1 set2 closest : List ℕ) → AreNumbers set1 → AreNumbers set2 → AreClosestCommon numbers set1 set2 closest
+      → AreClosestCommon named (map name set1) (map name set2) (map name closest)
+  closest_named set1 set2 closest inside1 inside2 found = record {
+    all = maximal_numbers named (IsCommon named (map name set1) (map name set2)) (IsCommonNode named (map name set1) (map name set2))
+        (λ a.
+        let first = reached_node named (map name set1) a in
+        let second = reached_node named (map name set2) a in
+        (λ common. (first.0 common.0, second.0 common.1), λ common. (first.1 common.0, second.1 common.1)))
+        (map name closest) (nodes.closest_named numbers named name n (λ a b below_a below_b. one_to_one a b) within edges set1 set2 closest inside1 inside2 found);
+    once = distinct_named closest found.once;
   }
 
   -- ---- topological orders
@@ -203,7 +177,7 @@ module _ (numbers named : Graph) (name : ℕ → ℕ) (n : ℕ) (rises : (i j : 
       once = distinct_named order k.once;
       before = λ a b among (steps, p).
           let m = Contains-unmap name order a among in
-          let q = walk_down (suc steps) m.0 b (reached_within numbers n within starts inside m.0 ((k.all m.0).0 m.1)) (subst (λ (c : ℕ). IsWalkOfLength named c b (suc steps)) (sym m.2) p) in
+          let q = walk_down (suc steps) m.0 b (nodes.reached_within numbers n within starts inside m.0 ((k.all m.0).0 m.1)) (subst (λ (c : ℕ). IsWalkOfLength named c b (suc steps)) (sym m.2) p) in
           let s = k.before m.0 q.0 m.1 (steps, q.2) in
           let split : map name order ≡ map name s.0 ++ name m.0 ∷ map name s.1 = ap (map name) s.2 ∙ map-append name s.0 (m.0 ∷ s.1) in
           subst (λ (c : ℕ). Precedes (map name order) c b) m.2
