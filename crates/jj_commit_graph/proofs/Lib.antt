@@ -1,0 +1,4 @@
+pub mod Numberings
+pub mod Histories
+pub mod Orders
+pub mod ReadOrders

@@ -1,0 +1,2 @@
+pub mod CommitGraphs
+pub mod Numberings
