@@ -2,3 +2,4 @@
 #![tactic(auto)]
 
 pub mod history;
+pub mod questions;
