@@ -47,7 +47,7 @@ must_be_pending g true e f = refl
 must_be_pending true false e f = absurd (true≢false e)
 must_be_pending false false e f = absurd (true≢false (sym f))
 
-is_false : (b : Bool) → not b ≡ true → b ≡ false
+pub is_false : (b : Bool) → not b ≡ true → b ≡ false
 is_false true e = absurd (true≢false (sym e))
 is_false false e = refl
 
@@ -73,7 +73,7 @@ all_apart y p (x ∷ xs) a =
     let P : Bool → Type 0 = λ b. AllByRecursion (λ z. eqb y z ≡ false) (cond b (x ∷ filter p xs) (filter p xs)) in
     elim (p x) as P [ true ↦ (a.0, all_apart y p xs a.1) | false ↦ all_apart y p xs a.1 ]
 
-distinct_filter : (p : ℕ → Bool) (xs : List ℕ) → IsDistinct eqb xs → IsDistinct eqb (filter p xs)
+pub distinct_filter : (p : ℕ → Bool) (xs : List ℕ) → IsDistinct eqb xs → IsDistinct eqb (filter p xs)
 distinct_filter p [] once = once
 distinct_filter p (x ∷ xs) once =
     let rest = distinct_filter p xs (IsDistinct-tail eqb x xs once) in
@@ -84,7 +84,7 @@ head_or_rest : {A : Type 0} (x : A) (xs : List A) (a : A) → Contains (x ∷ xs
 head_or_rest x xs a (zero, lt, e) = inl e
 head_or_rest x xs a (suc n, lt, e) = inr (n, omega arith, e)
 
-Contains-filtered : (p : ℕ → Bool) (xs : List ℕ) (a : ℕ) → Contains (filter p xs) a → Contains xs a × (p a ≡ true)
+pub Contains-filtered : (p : ℕ → Bool) (xs : List ℕ) (a : ℕ) → Contains (filter p xs) a → Contains xs a × (p a ≡ true)
 Contains-filtered p [] a (k, lt, e) = absurd (omega arith)
 Contains-filtered p (x ∷ xs) a h =
     let later : Contains (filter p xs) a → Contains (x ∷ xs) a × (p a ≡ true) = λ l. let r = Contains-filtered p xs a l in (Contains-append_right (x ∷ []) xs a r.0, r.1) in
@@ -94,7 +94,7 @@ Contains-filtered p (x ∷ xs) a h =
       | false ↦ λ e l. later l
     ] refl h
 
-Contains-passed : (p : ℕ → Bool) (xs : List ℕ) (a : ℕ) → Contains xs a → p a ≡ true → Contains (filter p xs) a
+pub Contains-passed : (p : ℕ → Bool) (xs : List ℕ) (a : ℕ) → Contains xs a → p a ≡ true → Contains (filter p xs) a
 Contains-passed p [] a h e = h
 Contains-passed p (x ∷ xs) a h e =
     let P : Bool → Type 0 = λ b. p x ≡ b → Contains (cond b (x ∷ filter p xs) (filter p xs)) a in

@@ -20,12 +20,12 @@ both_and : (a b : Bool) → a ≡ true → b ≡ true → (a && b) ≡ true
 both_and true b e f = f
 both_and false b e f = absurd (true≢false (sym e))
 
-not_grown_left : (k r x : Bool) → ((r && not k) || x) ≡ false → (k || r) ≡ k
+pub not_grown_left : (k r x : Bool) → ((r && not k) || x) ≡ false → (k || r) ≡ k
 not_grown_left true r x e = refl
 not_grown_left false true x e = absurd (true≢false e)
 not_grown_left false false x e = refl
 
-not_grown_right : (k r x : Bool) → (x || (r && not k)) ≡ false → (k || r) ≡ k
+pub not_grown_right : (k r x : Bool) → (x || (r && not k)) ≡ false → (k || r) ≡ k
 not_grown_right true r x e = refl
 not_grown_right false r true e = absurd (true≢false e)
 not_grown_right false true false e = absurd (true≢false e)
@@ -308,3 +308,55 @@ module _ (g : Graph) (set1 set2 : List ℕ) where
       let P : Bool → Type 0 = λ t. (m a).below ≡ t → (m a).below ≡ false in
       let fresh : (m a).below ≡ false = elim (m a).below as P [ true ↦ λ e. absurd (let c = k.marking.below a e in alone c.0 c.1 c.2) | false ↦ λ e. e ] refl in
       ((k.either a).1 (⊎_elim (λ o. inr o) (λ closed. inl ((k.marking.common a).1 (both, closed))) (is_open todo a)), fresh)
+
+  -- ---- the end of a search in which no open node is above one that is not open
+
+  -- a node with the first side passes it on to b, or an open node with it is above b
+  on_left_open : {m : ℕ → Sides} {todo found : List ℕ} {rooted : Bool} → IsMarking m todo found rooted → (n c b : ℕ) → (m c).left ≡ true → IsWalkOfLength g c b n
+      → ((m b).left ≡ true) ⊎ ((w : ℕ) × Contains todo w × ((m w).left ≡ true) × StrictlyReaches g w b)
+  on_left_open {m} k zero c b h p = inl (subst (λ x. (m x).left ≡ true) p h)
+  on_left_open {m} {todo} k (suc n) c b h (d, e, p) =
+      ⊎_elim (λ at. inr (c, at, h, (n, (d, e, p)))) (λ closed. on_left_open k n d b ((k.passed c d closed e).left h) p) (is_open todo c)
+
+  on_right_open : {m : ℕ → Sides} {todo found : List ℕ} {rooted : Bool} → IsMarking m todo found rooted → (n c b : ℕ) → (m c).right ≡ true → IsWalkOfLength g c b n
+      → ((m b).right ≡ true) ⊎ ((w : ℕ) × Contains todo w × ((m w).right ≡ true) × StrictlyReaches g w b)
+  on_right_open {m} k zero c b h p = inl (subst (λ x. (m x).right ≡ true) p h)
+  on_right_open {m} {todo} k (suc n) c b h (d, e, p) =
+      ⊎_elim (λ at. inr (c, at, h, (n, (d, e, p)))) (λ closed. on_right_open k n d b ((k.passed c d closed e).right h) p) (is_open todo c)
+
+  -- One of the sides has no open node that is not below a common one.
+  abbrev pub IsOneSided : (ℕ → Sides) → List ℕ → Type 0
+  IsOneSided m todo = ((w : ℕ) → Contains todo w → (m w).left ≡ true → (m w).below ≡ true) ⊎ ((w : ℕ) → Contains todo w → (m w).right ≡ true → (m w).below ≡ true)
+
+  -- no open node is above a node that has a side and is not open
+  abbrev pub HasNoneAbove : (ℕ → Sides) → List ℕ → Type 0
+  HasNoneAbove m todo = (a w : ℕ) → ((m a).left ≡ true) ⊎ ((m a).right ≡ true) → (Contains todo a → ⊥) → Contains todo w → StrictlyReaches g w a → ⊥
+
+  pub found_maximal : {m : ℕ → Sides} {todo found : List ℕ} {rooted : Bool} → IsMarking m todo found rooted → HasNoneAbove m todo → (a : ℕ) → Contains found a → (m a).below ≡ false → IsMaximal g (IsCommon g set1 set2) a
+  unfolding OpenAbove
+  found_maximal k none a h fresh =
+      let is = (k.common a).0 h in (
+        is_common k a is.0,
+        λ b common other way. ⊎_elim (λ marked. true≢false (sym marked ∙ fresh)) (λ (w, at, above). none a w (inl is.0.0) is.1 at above) (marked_or_open k b a common way),
+      )
+
+  pub maximal_found : {m : ℕ → Sides} {todo found : List ℕ} {rooted : Bool} → IsMarking m todo found rooted → HasNoneAbove m todo → IsOneSided m todo → ((a : ℕ) → StrictlyReaches g a a → ⊥)
+      → (a : ℕ) → IsMaximal g (IsCommon g set1 set2) a → Contains found a × ((m a).below ≡ false)
+  maximal_found {m} {todo} {found} k none stop acyclic a (((s, at, (n, p)), (t, there, (o, q))), maximal) =
+      let alone : (c : ℕ) → IsCommon g set1 set2 c → StrictlyReaches g c a → ⊥ = λ c shared way. maximal c shared (λ same. acyclic a (subst (λ x. StrictlyReaches g x a) same way)) way in
+      let lower : (w : ℕ) → (m w).below ≡ true → StrictlyReaches g w a → ⊥ = λ w is way. let (c, common, above) = k.below w is in alone c common (then_strictly c w a above way) in
+      let P : Bool → Type 0 = λ b. (m a).below ≡ b → (m a).below ≡ false in
+      let fresh : (m a).below ≡ false = elim (m a).below as P [ true ↦ λ e. absurd (let (c, common, above) = k.below a e in alone c common above) | false ↦ λ e. e ] refl in
+      let finds : ((m a).left ≡ true) × ((m a).right ≡ true) × (Contains todo a → ⊥) = ⊎_elim
+      (λ left_stop.
+      let left : (m a).left ≡ true = ⊎_elim (λ l. l) (λ (w, open_now, has_left, way). absurd (lower w (left_stop w open_now has_left) way)) (on_left_open k n s a (k.first s at) p) in
+      let closed : Contains todo a → ⊥ = λ h. true≢false (sym (left_stop a h left) ∙ fresh) in
+      let right : (m a).right ≡ true = ⊎_elim (λ r. r) (λ (w, open_now, has_right, way). absurd (none a w (inl left) closed open_now way)) (on_right_open k o t a (k.second t there) q) in
+      (left, right, closed))
+      (λ right_stop.
+      let right : (m a).right ≡ true = ⊎_elim (λ r. r) (λ (w, open_now, has_right, way). absurd (lower w (right_stop w open_now has_right) way)) (on_right_open k o t a (k.second t there) q) in
+      let closed : Contains todo a → ⊥ = λ h. true≢false (sym (right_stop a h right) ∙ fresh) in
+      let left : (m a).left ≡ true = ⊎_elim (λ l. l) (λ (w, open_now, has_left, way). absurd (none a w (inr right) closed open_now way)) (on_left_open k n s a (k.first s at) p) in
+      (left, right, closed))
+      stop in
+      ((k.common a).1 ((finds.0, finds.1), finds.2), fresh)

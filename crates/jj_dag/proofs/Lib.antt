@@ -39,3 +39,6 @@ pub mod ListNumbers
 pub mod SortedResults
 pub mod ArrayGraphs
 pub mod ReachableNodes
+pub mod RankedNodes
+pub mod PrunedSearches
+pub mod RankedSearches

@@ -25,3 +25,6 @@ pub mod PackedLists
 pub mod NodeGraph
 pub mod ArrayGraphs
 pub mod SoundNodes
+pub mod Ranks
+pub mod PrunedSearches
+pub mod Frontiers

@@ -1,7 +1,7 @@
 //! Graphs as lists of neighbors in arrays. The nodes are numbers, and the neighbors of a node are
 //! the list at its index; a number without a list has none. Sets and maps of nodes are sparse sets
 //! without hashing, unless some node is far above the numbers of lists and of edges.
-ghost use Rattle.std.specs.Prelude.{◌≡◌, ◌<◌, ◌↔◌, ℕ, [], All, Contains, IfOk, IsOkAnd, MatchBool, MatchOption, eqb, length, map};
+ghost use Rattle.std.specs.Prelude.{◌≡◌, ◌<◌, ◌↔◌, ℕ, [], All, Contains, IfOk, IsOkAnd, IsTrue, MatchBool, MatchOption, eqb, length, map};
 ghost use Rattle.std.specs.Iterator.{YieldsFirst, item_count};
 ghost use Rattle.std.specs.Iterator.Adapters.{copied_source};
 ghost use Rattle.std.specs.List.{IsDistinct};
@@ -11,6 +11,7 @@ ghost use Rattle.jj_dag.specs.ArrayGraphs.{HasCycle, graph_of};
 ghost use Rattle.jj_dag.specs.CommonNodes.{AreClosestCommon, HasNoCommonCycle};
 ghost use Rattle.jj_dag.specs.Graph.{AreMaximalElements, IsAcyclicFrom, IsGreatestTopologicalOrder, OnCycleFrom, ReachedFrom};
 ghost use Rattle.jj_dag.specs.NumberSets.{keys_of};
+ghost use Rattle.jj_dag.specs.Orders.{IsWholePostorder};
 ghost use Rattle.jj_dag.specs.Outcomes.{IfFails};
 ghost use Rattle.jj_dag.specs.PackedLists.{lists_of};
 
@@ -91,9 +92,9 @@ fn sound_neighbors_of(
 /// nodes are small.
 #[derive(Drop)]
 pub struct Visited {
-    heads: NumberSet,
-    visited: NumberSet,
-    known: NumberMap<NodeState>,
+    pub(crate) heads: NumberSet,
+    pub(crate) visited: NumberSet,
+    pub(crate) known: NumberMap<NodeState>,
     index_of: NumberMap<usize>,
 }
 
@@ -114,7 +115,9 @@ fn dense_end(count1: usize, count2: usize) -> usize {
     count1.saturating_add(count2).saturating_add(1024)
 }
 
-fn are_below(end: usize, nodes: &[usize]) -> bool {
+pub(crate) fn are_below(end: usize, nodes: &[usize]) -> bool
+    ensures { IsTrue result → All (λ node. node < end) nodes.now }
+{
     nodes.iter().all(|node| *node < end)
 }
 
@@ -144,6 +147,13 @@ impl ArrayGraph {
         Ok(ArrayGraph::new(packed))
     }
 
+    /// Returns the number of lists.
+    pub fn len(&self) -> usize
+        ensures { result ≡ length self.now }
+    {
+        self.lists.len()
+    }
+
     /// Returns the neighbors of a node; none if it has no list.
     pub fn neighbors_of(&self, node: usize) -> &[usize]
         ensures { result.now ≡ graph_of self.now node }
@@ -157,7 +167,7 @@ impl ArrayGraph {
 
     // Returns whether arrays up to the greatest node that these starts reach are no longer than the
     // lists, the edges and the starts.
-    fn has_dense_nodes(&self, starts: &[usize]) -> bool {
+    pub(crate) fn has_dense_nodes(&self, starts: &[usize]) -> bool {
         self.has_dense_neighbors && are_below(dense_end(self.dense_end, starts.len()), starts)
     }
 
@@ -169,17 +179,18 @@ impl ArrayGraph {
         self.lists.numbers()
     }
 
-    /// Returns a node on a cycle that the starts reach, if they reach one. Fails if memory runs
-    /// out. Takes `O(n + e)` for n nodes and e edges.
-    pub fn find_cycle(&self, alloc: Global, starts: &[usize]) -> Result<Option<usize>, AllocError>
-        ensures { IfOk result (λ found. MatchOption found
-            (IsAcyclicFrom (graph_of self.now) starts.now)
-            (OnCycleFrom (graph_of self.now) starts.now)) }
+    /// Returns the nodes that the starts reach in depth-first postorder: each after its neighbors.
+    /// Fails with a node on a cycle if they reach one, and with `Memory` if memory runs out. Takes
+    /// `O(n + e)` for n nodes and e edges.
+    pub fn postorder(&self, alloc: Global, starts: &[usize]) -> Result<Vec<usize>, WalkError<usize>>
+        ensures order { IfOk result (λ order.
+            IsWholePostorder (graph_of self.now) starts.now order.items) }
+        ensures cycle { IfFails result (OnCycleFrom (graph_of self.now) starts.now) }
     {
         let is_dense = self.has_dense_nodes(starts);
         let mut visiting = NumberSet::new(alloc, is_dense);
         let mut emitted = NumberSet::new(alloc, is_dense);
-        let order = topo_order_forward_in(
+        topo_order_forward_in(
             alloc,
             &mut visiting,
             &mut emitted,
@@ -187,8 +198,17 @@ impl ArrayGraph {
             |node: &usize| Ok(*node),
             |node: &usize| self.neighbors_of(*node).iter().copied(),
             |node: usize| node,
-        );
-        match order {
+        )
+    }
+
+    /// Returns a node on a cycle that the starts reach, if they reach one. Fails if memory runs
+    /// out. Takes `O(n + e)` for n nodes and e edges.
+    pub fn find_cycle(&self, alloc: Global, starts: &[usize]) -> Result<Option<usize>, AllocError>
+        ensures { IfOk result (λ found. MatchOption found
+            (IsAcyclicFrom (graph_of self.now) starts.now)
+            (OnCycleFrom (graph_of self.now) starts.now)) }
+    {
+        match self.postorder(alloc, starts) {
             Ok(_order) => Ok(None),
             Err(error) => match error {
                 WalkError::Node(node) => Ok(Some(node)),

@@ -2,7 +2,7 @@
 //! with the sets that reach it.
 ghost use Rattle.std.specs.Prelude.{◌≡◌, ◌+◌, ◌≤◌, ◌<◌, ◌^◌, ◌&&◌, ◌∷◌, ◌++◌, [], IfOk, IsTrue, Ok, Err, OnOk, MatchBool, cond, map};
 ghost use Rattle.std.specs.Iterator.{IsFiniteIterable};
-ghost use Rattle.std.specs.BinaryHeap.{heap_items, heap_len};
+ghost use Rattle.std.specs.BinaryHeap.{KeepsHeap, heap_items, heap_len};
 ghost use Rattle.std.specs.Fn.{CalledAt};
 ghost use Rattle.std.specs.List.Sorted.{IsPermutation};
 ghost use Rattle.indexmap.specs.IndexMap.{insert_entry};
@@ -22,39 +22,39 @@ use std::hash::Hash;
 /// Whether the first set, the second set, and another common node are known to reach a node.
 #[derive(Clone, Copy)]
 pub struct Sides {
-    left: bool,
-    right: bool,
-    below: bool,
+    pub left: bool,
+    pub right: bool,
+    pub below: bool,
 }
 
 /// The sets that are known to reach a node, and whether it is pending.
 #[derive(Clone, Copy)]
 pub struct NodeState {
-    sides: Sides,
-    is_pending: bool,
+    pub sides: Sides,
+    pub is_pending: bool,
 }
 
 impl Sides {
-    const LEFT: Sides = Sides {
+    pub const LEFT: Sides = Sides {
         left: true,
         right: false,
         below: false,
     };
 
-    const RIGHT: Sides = Sides {
+    pub const RIGHT: Sides = Sides {
         left: false,
         right: true,
         below: false,
     };
 
-    fn is_common(self) -> bool
+    pub fn is_common(self) -> bool
         ensures { result ≡ (self.left && self.right) }
     {
         self.left && self.right
     }
 
     // Returns the sides that a node passes to its neighbors: those of a common node are below it.
-    fn propagated(self) -> Sides
+    pub fn propagated(self) -> Sides
         ensures { result ≡ propagated self }
     {
         Sides {
@@ -83,7 +83,7 @@ impl Sides {
 }
 
 impl NodeState {
-    fn with_sides(self, added: Sides) -> NodeState
+    pub fn with_sides(self, added: Sides) -> NodeState
         ensures { result ≡ state_with self added }
     {
         NodeState {
@@ -101,7 +101,7 @@ impl NodeState {
 }
 
 // Returns the state of the node with this id.
-fn state_of<ID: Eq, M: NodeMap<ID, NodeState>>(known: &M, id: &ID) -> NodeState
+pub fn state_of<ID: Eq, M: NodeMap<ID, NodeState>>(known: &M, id: &ID) -> NodeState
     ensures { result ≡ state_at ID.eq (M.entries known.now) id.now }
 {
     match known.get(id) {
@@ -118,7 +118,7 @@ fn state_of<ID: Eq, M: NodeMap<ID, NodeState>>(known: &M, id: &ID) -> NodeState
 }
 
 // Adds to the state of a node. If another set reaches it now, it becomes pending.
-fn relax<T: Ord + Drop, ID: Eq + Drop, M: NodeMap<ID, NodeState>>(
+pub fn relax<T: Ord + Drop, ID: Eq + Drop, M: NodeMap<ID, NodeState>>(
     known: &mut M,
     pending: &mut BinaryHeap<T>,
     node: T,
@@ -132,6 +132,7 @@ fn relax<T: Ord + Drop, ID: Eq + Drop, M: NodeMap<ID, NodeState>>(
         (becomes_pending (state_at ID.eq (M.entries known.old) id) sides)
         (IsPermutation (node ∷ heap_items pending.old) (heap_items pending.new))
         (heap_items pending.new ≡ heap_items pending.old)) }
+    ensures heap_order { KeepsHeap T.cmp (heap_items pending.old) (heap_items pending.new) }
     ensures balance { OnOk result (sides_met (M.entries known.old) + heap_len pending.new
         ≤ sides_met (M.entries known.new) + heap_len pending.old) }
     ensures small { OnOk result (sides_met (M.entries known.new) < 2 ^ 64) }
@@ -147,7 +148,7 @@ fn relax<T: Ord + Drop, ID: Eq + Drop, M: NodeMap<ID, NodeState>>(
 }
 
 // Returns the state of a pending node, and makes the node no longer pending.
-fn take_queued<ID: Eq, M: NodeMap<ID, NodeState>>(known: &mut M, id: &ID) -> Sides
+pub fn take_queued<ID: Eq, M: NodeMap<ID, NodeState>>(known: &mut M, id: &ID) -> Sides
     ensures sides { result ≡ (state_at ID.eq (M.entries known.old) id.now).sides }
     ensures known { IsTrue (state_at ID.eq (M.entries known.old) id.now).is_pending → (i : ID)
         → state_at ID.eq (M.entries known.new) i ≡ cond (ID.eq id.now i)
