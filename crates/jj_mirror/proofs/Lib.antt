@@ -4,6 +4,7 @@ pub mod FreeDigests
 pub mod EntryErrors
 pub mod StoredObjects
 pub mod ReplayedEntries
+pub mod ReplayedNext
 pub mod ReplayedAgain
 pub mod LoggedObjects
 pub mod LoggedOnce

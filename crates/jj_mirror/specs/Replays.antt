@@ -1,7 +1,8 @@
 -- The objects that an in-memory backend stores after a log was replayed, and the error of the first
 -- entry that fails.
--- Cited by contracts of public items: IsReplay, IsReplayCause, IsReplayError, replay_error.
-use Rattle.std.specs.Prelude.{◌≡◌, ◌≢◌, ◌⊎◌, ⊤, ℕ, List, take, slice_get, Some, All, Contains}
+-- Cited by contracts of public items: IsReplay, IsReplayCause, IsReplayError, IsReplayResult,
+-- replay_error.
+use Rattle.std.specs.Prelude.{◌≡◌, ◌≢◌, ◌⊎◌, ⊤, ℕ, List, take, slice_get, Some, All, Contains, Result, Ok, Err}
 use Rattle.std.specs.Str.{IsValidUpTo}
 use Rattle.jj_files.specs.declared.file_util.errors.SourceKind.TheVariants.{Other as OtherKind}
 use Rattle.jj_backend.specs.Contents.{IsCopyHistory, copy_history_content, IsCommit, commit_content}
@@ -110,3 +111,8 @@ module _ (copy tree commit : List ℕ → ℕ → DecodeError → Type 0) where
       × KindErrors entry.kind entry.bytes (decode.Malformed reason offset)
   IsReplayCause entries (WrongObject kind id) = ⊤
   IsReplayCause entries (Backend error) = ⊤
+
+  -- the result of replaying these entries: their backend, or the error of the first that fails
+  abbrev pub IsReplayResult : List LogEntryValue → Result MemoryBackendValue ReplayError → Type 0
+  IsReplayResult entries (Ok backend) = IsReplay entries backend
+  IsReplayResult entries (Err e) = IsReplayError entries e × IsReplayCause entries e

@@ -1,7 +1,8 @@
 //! Replaying a log of written objects into an in-memory backend.
-ghost use Rattle.std.specs.Prelude.{◌≡◌, IfOk, IfErr};
-ghost use Rattle.jj_trees.specs.MemoryObjects.{MemoryBackendValue};
-ghost use Rattle.jj_mirror.specs.Replays.{IsReplay, IsReplayCause, IsReplayError};
+ghost use Rattle.std.specs.Prelude.{◌≡◌, ◌++◌, ◌∷◌, [], List, IfOk, IfErr};
+ghost use Rattle.jj_trees.specs.MemoryObjects.{MemoryBackendValue, digest_length};
+ghost use Rattle.jj_mirror.specs.Entries.{LogEntryValue};
+ghost use Rattle.jj_mirror.specs.Replays.{IsReplay, IsReplayCause, IsReplayError, IsReplayResult};
 
 use crate::entry_writes::write_entry;
 use crate::error::ReplayError;
@@ -32,5 +33,28 @@ pub fn replay(alloc: Global, entries: &[LogEntry]) -> Result<MemoryBackend, Repl
     for entry in entries {
         write_entry(alloc, &mut backend, entry)?;
     }
+    Ok(backend)
+}
+
+/// Takes the result of replaying some entries, and returns that of replaying these and one more:
+/// stores the object of the entry, unless an entry before it failed. The error is that of the first
+/// entry that fails. A backend has to have whole digests as ids.
+pub fn replay_next(
+    alloc: Global,
+    replayed: Result<MemoryBackend, ReplayError>,
+    entry: &LogEntry,
+) -> Result<MemoryBackend, ReplayError>
+    requires { IfOk replayed (λ backend. backend.id_length ≡ digest_length) }
+    // The backend has whole digests as ids.
+    ensures whole { IfOk result (λ backend. backend.id_length ≡ digest_length) }
+    // Takes the result of replaying these entries to that of replaying one more.
+    ensures next { (entries : List LogEntryValue)
+        → IsReplayResult ⟦<CopyHistory as ReadContent>⟧.errors ⟦<Tree as ReadContent>⟧.errors
+        ⟦<Commit as ReadContent>⟧.errors entries replayed
+        → IsReplayResult ⟦<CopyHistory as ReadContent>⟧.errors ⟦<Tree as ReadContent>⟧.errors
+        ⟦<Commit as ReadContent>⟧.errors (entries ++ entry.now ∷ []) result }
+{
+    let mut backend = replayed?;
+    write_entry(alloc, &mut backend, entry)?;
     Ok(backend)
 }

@@ -94,13 +94,13 @@ module _ {S : Type 0} (g : Ghosts S)
         crash = λ now db left. inl (leaves entries (all now).0 (all now).1 db left);
       }
 
-  pub kept_reading : (rows : List Row) (entries : List LogEntryValue) → (HasCleanDisk (state g new) → Shown select_statement [] (state g old) (state g new) rows)
+  pub kept_reading : (entries : List LogEntryValue) → (HasCleanDisk (state g new) → (rows : List Row) × Shown select_statement [] (state g old) (state g new) rows)
       → Survives (state g old) (state g new) (CommitsShowing select_statement [] (state g old)) → StoresEntries g old entries → StoresEntries g new entries
-  kept_reading rows entries shows survives had =
+  kept_reading entries shows survives had =
       let clean = λ (now : HasCleanDisk (state g new)). let before : HasCleanDisk (state g old) = omega (arith, survives.clean) in before in
-      let has = λ (now : HasCleanDisk (state g new)). had.now (clean now) (shown_open select_statement [] (state g old) (state g new) rows (shows now)) in
+      let has = λ (now : HasCleanDisk (state g new)). had.now (clean now) (shown_open select_statement [] (state g old) (state g new) (shows now).0 (shows now).1) in
       record {
-        now = λ now is_open. keeps_reading (state g old) (state g new) rows entries (has now) (shows now);
+        now = λ now is_open. keeps_reading (state g old) (state g new) (shows now).0 entries (has now) (shows now).1;
         crash = λ now db left. elim (survives.crash now db left) [
           | inl before ↦ had.crash (clean now) db before
           | inr made ↦ absurd (reading_commits_nothing (state g old) entries db (has now) made)

@@ -7,3 +7,6 @@ pub mod Batches
 pub mod Reopened
 pub mod Faults
 pub mod Reasons
+pub mod Selects
+pub mod StreamedQueries
+pub mod RowReplays

@@ -9,7 +9,8 @@ use Rattle.jj_sqlite.specs.Rows.{AreNumbered, AreNumberedAfter, IsErrorAt, IsGoo
 use Rattle.jj_sqlite.specs.declared.error.OpenError.{OpenError}
 use Rattle.jj_sqlite.specs.declared.error.OpenError.TheVariants.{Memory, Sqlite, Foreign, Gap, Lost, WrongObject, UnknownKind, Malformed, Backend}
 
-push : (rows : List Row) (entries : List LogEntryValue) (row : Row) (entry : LogEntryValue) → AllZip IsGoodRow rows entries → IsGoodRow row entry
+-- the entries of rows and of one more
+pub push : (rows : List Row) (entries : List LogEntryValue) (row : Row) (entry : LogEntryValue) → AllZip IsGoodRow rows entries → IsGoodRow row entry
     → AllZip IsGoodRow (rows ++ row ∷ []) (entries ++ entry ∷ [])
 push [] [] row entry all this = (this, tt)
 push [] (e ∷ entries) row entry all this = absurd all
@@ -22,7 +23,8 @@ pub more_rows : (rows : List Row) (entries : List LogEntryValue) (i : ℕ) (row 
 more_rows rows entries i row entry lt is all this =
     subst (λ (l : List Row). AllZip IsGoodRow l (entries ++ entry ∷ [])) (ap (λ z. take i rows ++ z ∷ []) is ∙ sym (take_more rows i row lt)) (push (take i rows) entries row entry all this)
 
-push_number : (rows : List Row) (row : Row) (count : ℕ) → AreNumberedAfter count rows → column row 0 ≡ Int (pos (count + length rows + 1)) → AreNumberedAfter count (rows ++ row ∷ [])
+-- rows are numbered, and one more is
+pub push_number : (rows : List Row) (row : Row) (count : ℕ) → AreNumberedAfter count rows → column row 0 ≡ Int (pos (count + length rows + 1)) → AreNumberedAfter count (rows ++ row ∷ [])
 push_number [] row count all next = (next ∙ ap (λ n. Int (pos n)) (omega arith), tt)
 push_number (r ∷ rows) row count all next = (all.0, push_number rows row (count + 1) all.1 (next ∙ ap (λ n. Int (pos n)) (omega arith)))
 

@@ -4,6 +4,7 @@ pub mod Inserts
 pub mod Batches
 pub mod Rows
 pub mod Opening
+pub mod RowReplays
 pub mod StoreFiles
 pub mod Closing
 pub mod Faults

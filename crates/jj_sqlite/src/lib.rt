@@ -4,6 +4,7 @@
 mod counts;
 pub mod error;
 pub mod files;
+mod row_replay;
 pub mod sqlite_batch;
 pub mod sqlite_log;
 pub mod store;

@@ -170,7 +170,7 @@ fn create_table<S: Alter>(conn: &mut Connection<S>) -> Result<usize, Error>
     )
 }
 
-fn select_rows<S: Alter>(conn: &mut Connection<S>) -> Result<Vec<Row>, Error>
+pub(crate) fn select_rows<S: Alter>(conn: &mut Connection<S>) -> Result<Vec<Row>, Error>
     ensures rows { HasCleanDisk (state S.Store conn.new) → IfOk result (λ rows.
         Shown select_statement [] (state S.Store conn.old) (state S.Store conn.new) rows.items) }
     ensures survives { Survives (state S.Store conn.old) (state S.Store conn.new)
@@ -200,7 +200,8 @@ fn entry_from_row(row: &Row) -> Result<LogEntry, OpenError>
 
 // Returns whether a row has this number.
 pub(crate) fn has_number(row: &Row, seq: usize) -> bool
-    ensures { IsTrue result ↔ (column row.now 0 ≡ Int (pos seq)) }
+    ensures number { IsTrue result ↔ (column row.now 0 ≡ Int (pos seq)) }
+    ensures fits { IsTrue result → seq < 2 ^ 63 }
 {
     match row.get_ref(0) {
         Ok(ValueRef::Int(number)) => u64::try_from(number) == Ok(seq as u64),
@@ -223,10 +224,11 @@ fn checked_entry(row: &Row) -> Result<LogEntry, OpenError>
 }
 
 // Returns the entry of the row after so many others.
-fn next_entry(row: &Row, count: usize) -> Result<LogEntry, OpenError>
+pub(crate) fn next_entry(row: &Row, count: usize) -> Result<LogEntry, OpenError>
     requires { count < 2 ^ 63 }
     ensures ok { IfOk result (IsGoodRow row.now) }
     ensures number { OnOk result (column row.now 0 ≡ Int (pos (count + 1))) }
+    ensures fits { OnOk result (count + 1 < 2 ^ 63) }
     ensures wrong { IfErr result (IsErrorAt count row.now) }
 {
     if has_number(row, count + 1) {

@@ -15,12 +15,13 @@ ghost use Rattle.jj_sqlite.specs.Opening.{IsDecodingError, IsOpenCause, OnMalfor
 ghost use Rattle.jj_sqlite.specs.Opening.{sqlite_error};
 ghost use Rattle.jj_sqlite.specs.Closing.{CrashContains, FilesContain, IsBackup};
 
+use crate::counts::check_count;
 use crate::error::OpenError;
+use crate::row_replay::{Replayed, replay_rows};
 use crate::sqlite_log::SqliteLog;
 use jj_backend::backend::{Commit, CopyHistory, Tree};
 use jj_decode::read_content::ReadContent;
 use jj_mirror::mirrored::Mirrored;
-use jj_mirror::replay::replay;
 use jj_trees::memory_backend::MemoryBackend;
 use sqlite::{Alter, Connection, Error, FileStore};
 use sqlite_disk::{Disk, Files};
@@ -51,9 +52,12 @@ fn replay_log<S: Alter>(alloc: Global, log: &mut SqliteLog<S>) -> Result<MemoryB
         ⟦<Tree as ReadContent>⟧.errors ⟦<Commit as ReadContent>⟧.errors
         log.old.conn log.new.conn)) }
 {
-    let entries = log.read_entries(alloc)?;
-    let backend = replay(alloc, &entries)?;
-    Ok(backend)
+    let Replayed { backend, count } = replay_rows(alloc, &mut log.conn)?;
+    check_count(&mut log.conn, count)?;
+    match backend {
+        Ok(backend) => Ok(backend),
+        Err(error) => Err(OpenError::from(error)),
+    }
 }
 
 // Puts a backend with whole digests beside its log.
@@ -68,9 +72,10 @@ fn beside<S: Alter>(backend: MemoryBackend, log: SqliteLog<S>) -> Mirrored<Sqlit
     }
 }
 
-/// Opens the backend whose log is in a database: reads the entries and replays them into a backend
-/// in memory. Creates the log in an empty database. The backend has whole digests as ids. Fails as
-/// `SqliteLog::over`, `read_entries` and `replay` do; an error returns the connection too.
+/// Opens the backend whose log is in a database: replays the entries into a backend in memory, each
+/// as its row is read. Creates the log in an empty database. The backend has whole digests as ids.
+/// Fails as `SqliteLog::over`, `read_entries` and `replay` do, in this order; an error returns the
+/// connection too.
 pub fn open_store<S: Alter>(
     alloc: Global,
     conn: Connection<S>,

@@ -62,7 +62,7 @@ returns-clause-counted g c = λ clean entries has.
 pub returns-clause-kept : goal.returns-clause-kept
 returns-clause-kept g c = λ entries had.
     c.in_ok-check_count.ensures.kept entries
-    (kept_reading g.S.Store g.met.S.Store.settled c.args.self.now.conn c.select_rows.new.conn c.in_ok-rows.rows.items entries c.in_ok-rows.ensures.rows c.select_rows.ensures.survives had)
+    (kept_reading g.S.Store g.met.S.Store.settled c.args.self.now.conn c.select_rows.new.conn entries (λ clean. (c.in_ok-rows.rows.items, c.in_ok-rows.ensures.rows clean)) c.select_rows.ensures.survives had)
 
 pub returns-clause-clean : goal.returns-clause-clean
 returns-clause-clean g c = λ clean.
