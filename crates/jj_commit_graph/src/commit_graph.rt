@@ -13,6 +13,7 @@ use crate::numbering::Numbering;
 use jj_backend::backend::{Backend, CommitId};
 use jj_dag::array_graph::{ArrayGraph, Visited};
 use jj_dag::packed_lists::PackedLists;
+use jj_dag::ranked_graph::RankedGraph;
 use jj_dag::walk_error::WalkError;
 use jj_store_walks::{HistoryError, ReadCommit, history_order};
 use std::alloc::{AllocError, Global};
@@ -24,7 +25,7 @@ use std::marker::Model;
 pub struct CommitGraph {
     numbering: Numbering,
     // The numbers of the parents of each commit, which are less than its own.
-    parents: ArrayGraph,
+    parents: RankedGraph,
     visited: Visited,
 }
 
@@ -113,7 +114,7 @@ impl CommitGraph {
         }
         Ok(CommitGraph {
             numbering,
-            parents: ArrayGraph::new(lists),
+            parents: RankedGraph::new(alloc, ArrayGraph::new(lists))?,
             visited: Visited::new(alloc),
         })
     }

@@ -79,6 +79,14 @@ IsAmbiguousError revision Memory = Unit {0}
 IsAmbiguousError revision (Unknown quoted) = ⊥
 IsAmbiguousError revision (Ambiguous quoted) = string_bytes quoted ≡ excerpt_of revision
 
+-- none of the commits has such an id, or several have one; the error quotes the revision
+abbrev pub IsChoiceError : List (List ℕ) → List ℕ → RevisionError → Type 0
+IsChoiceError found revision Memory = Unit {0}
+IsChoiceError found revision (Unknown quoted) = (found ≡ [])
+    × (string_bytes quoted ≡ excerpt_of revision)
+IsChoiceError found revision (Ambiguous quoted) = HasSeveral found
+    × (string_bytes quoted ≡ excerpt_of revision)
+
 module _ (refs git_ids : Names) (ids : List (List ℕ)) (revision : List ℕ) where
   -- the commit of the ref; without one, the only commit with an id that begins with the revision
   abbrev pub IsNamed : List ℕ → Type 0

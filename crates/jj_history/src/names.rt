@@ -44,16 +44,21 @@ fn push_ref(
 }
 
 impl CommitNames {
+    /// Returns no names.
+    pub fn empty(alloc: Global) -> Self {
+        CommitNames {
+            git_ids: BTreeMap::new(alloc),
+            refs: BTreeMap::new(alloc),
+        }
+    }
+
     /// Returns the names of commits by these refs and ids of Git.
     pub fn new(
         alloc: Global,
         refs: &BTreeMap<String, CommitId>,
         git_ids: &BTreeMap<String, CommitId>,
     ) -> Result<Self, AllocError> {
-        let mut names = CommitNames {
-            git_ids: BTreeMap::new(alloc),
-            refs: BTreeMap::new(alloc),
-        };
+        let mut names = CommitNames::empty(alloc);
         for (git_id, id) in git_ids {
             names.git_ids.insert(id.clone()?, git_id.clone()?)?;
         }

@@ -1,9 +1,9 @@
 //! The commit that a revision names: a ref, or a prefix of an id of the store or of Git.
 ghost use Rattle.std.specs.Prelude.{◌≡◌, ◌≢◌, ◌↔◌, ◌++◌, ℕ, List, All, Contains, IfOk, IfErr, IsTrue, string_bytes};
-ghost use Rattle.std.specs.BTreeMap.{get_by_text};
+ghost use Rattle.std.specs.BTreeMap.{get_by_text, values};
 ghost use Rattle.std.specs.Bool.{MatchBool};
 ghost use Rattle.std.specs.Option.{option_or};
-ghost use Rattle.jj_history.specs.Revisions.{IsAmbiguousError, IsNamed, IsResolution, IsRevisionError, IsUnknownError, commits_at, git_commits_with, prefix_of, ref_commit, store_commits_with};
+ghost use Rattle.jj_history.specs.Revisions.{IsAmbiguousError, IsChoiceError, IsNamed, IsOnly, IsResolution, IsRevisionError, IsUnknownError, commits_at, git_commits_with, prefix_of, ref_commit, store_commits_with};
 
 use crate::error::RevisionError;
 use jj_excerpts::excerpt;
@@ -109,6 +109,24 @@ fn store_commits_with(
     Ok(found)
 }
 
+// Returns those of the commits of a map whose ids have the prefix.
+fn values_with(
+    alloc: Global,
+    ids: &BTreeMap<String, CommitId>,
+    prefix: &HexPrefix,
+) -> Result<Vec<CommitId>, AllocError>
+    ensures { IfOk result (λ found. found.items
+        ≡ store_commits_with (values ids.now) prefix.now) }
+{
+    let mut found = Vec::new(alloc);
+    for id in ids.values() {
+        if prefix.matches(id) {
+            found.push(id.clone()?)?;
+        }
+    }
+    Ok(found)
+}
+
 // Appends the commits whose ids in Git have the prefix.
 fn push_git_commits(
     git_ids: &BTreeMap<String, CommitId>,
@@ -139,6 +157,23 @@ fn commits_at(
         return Ok(Vec::new(alloc));
     };
     let mut found = store_commits_with(alloc, ids, &prefix)?;
+    push_git_commits(git_ids, prefix.hex()?.as_str(), &mut found)?;
+    Ok(found)
+}
+
+// Returns the commits of Git's ids with an id that begins with the revision.
+fn known_commits_at(
+    alloc: Global,
+    git_ids: &BTreeMap<String, CommitId>,
+    revision: &str,
+) -> Result<Vec<CommitId>, AllocError>
+    ensures { IfOk result (λ found. found.items
+        ≡ commits_at git_ids.now (values git_ids.now) revision.now) }
+{
+    let Some(prefix) = prefix_of(alloc, revision)? else {
+        return Ok(Vec::new(alloc));
+    };
+    let mut found = values_with(alloc, git_ids, &prefix)?;
     push_git_commits(git_ids, prefix.hex()?.as_str(), &mut found)?;
     Ok(found)
 }
@@ -194,6 +229,19 @@ fn ambiguous(alloc: Global, revision: &str) -> RevisionError
     }
 }
 
+// Returns the only commit of those found, or the error that there is none or that there are
+// several.
+fn choose(alloc: Global, found: &[CommitId], revision: &str) -> Result<CommitId, RevisionError>
+    ensures commit { IfOk result (IsOnly found.now) }
+    ensures error { IfErr result (IsChoiceError found.now revision.now) }
+{
+    match only_commit(found)? {
+        PrefixResolution::SingleMatch(id) => Ok(id),
+        PrefixResolution::NoMatch => Err(unknown(alloc, revision)),
+        PrefixResolution::AmbiguousMatch => Err(ambiguous(alloc, revision)),
+    }
+}
+
 /// Returns the commit that a revision names: that of the ref with this name, which may lack
 /// `refs/`, `refs/tags/`, `refs/heads/` or `refs/remotes/`, the first of these that there is; and
 /// else the only commit whose id, one of `ids` or Git's, has the revision as a prefix, in hex
@@ -216,9 +264,25 @@ pub fn resolve(
         return Ok(id);
     }
     let found = commits_at(alloc, git_ids, ids, revision)?;
-    match only_commit(&found)? {
-        PrefixResolution::SingleMatch(id) => Ok(id),
-        PrefixResolution::NoMatch => Err(unknown(alloc, revision)),
-        PrefixResolution::AmbiguousMatch => Err(ambiguous(alloc, revision)),
+    choose(alloc, &found, revision)
+}
+
+/// Returns the commit that a revision names, as `resolve` does among the commits of Git's ids,
+/// which are not copied.
+pub fn resolve_known(
+    alloc: Global,
+    refs: &BTreeMap<String, CommitId>,
+    git_ids: &BTreeMap<String, CommitId>,
+    revision: &str,
+) -> Result<CommitId, RevisionError>
+    ensures commit { IfOk result
+        (IsNamed refs.now git_ids.now (values git_ids.now) revision.now) }
+    ensures error { IfErr result
+        (IsRevisionError refs.now git_ids.now (values git_ids.now) revision.now) }
+{
+    if let Some(id) = find_ref(alloc, refs, revision)? {
+        return Ok(id);
     }
+    let found = known_commits_at(alloc, git_ids, revision)?;
+    choose(alloc, &found, revision)
 }

@@ -1,16 +1,18 @@
 //! The program `jj-history`: the history of a Git repository in an SQLite database.
 #![tactic(auto)]
 
+mod asking;
 mod batches;
 mod database;
 mod fault;
 mod importing;
+mod lines;
 mod merging;
 mod session;
 
 use crate::fault::Fault;
-use crate::session::run_on_store;
-use jj_files::file_util::{StdIo, Watched, write_all};
+use crate::session::{Streams, run_on_store};
+use jj_files::file_util::{StdIo, Watched};
 use jj_filter::arguments::{VERSION, arguments};
 use jj_filter::report::write_report;
 use jj_history_commands::arguments::{Command, Request, parse_words};
@@ -36,38 +38,44 @@ fn path_fault(rt: &HostRuntime, file: &str, imports: bool) -> Option<&'static st
     }
 }
 
-fn run(rt: &HostRuntime, file: &str, command: &Command) -> Result<Vec<u8>, Fault> {
-    let alloc = rt.alloc();
-    let imports = matches!(command, Command::Import);
+// Returns the input that a command reads.
+fn input_of(command: &Command) -> Option<&'static str> {
+    match command {
+        Command::Import => Some("a stream of git fast-export"),
+        Command::Batch => Some("questions, a line each"),
+        _ => None,
+    }
+}
+
+fn run(rt: &HostRuntime, file: &str, command: &Command) -> Result<(), Fault> {
     let stdin = rt.stdin();
-    if imports && stdin.is_terminal() {
-        let _ = eprintln!(rt; "{NAME}: reads a stream of git fast-export, up to Ctrl-D");
+    if let Some(input) = input_of(command)
+        && stdin.is_terminal()
+    {
+        let _ = eprintln!(rt; "{NAME}: reads {input}, up to Ctrl-D");
     }
     let stderr = rt.stderr();
-    let on_terminal = imports && stderr.is_terminal();
-    let mut errors = Watched::new(StdIo(stderr));
-    let source = Watched::new(StdIo(stdin));
-    let opened = open_store_file(rt, file, PATIENCE);
-    run_on_store(alloc, opened, command, source, &mut errors, on_terminal)
+    let on_terminal = matches!(command, Command::Import) && stderr.is_terminal();
+    let streams = Streams {
+        source: Watched::new(StdIo(stdin)),
+        output: Watched::new(StdIo(rt.stdout())),
+        errors: Watched::new(StdIo(stderr)),
+        on_terminal,
+    };
+    run_on_store(
+        rt.alloc(),
+        open_store_file(rt, file, PATIENCE),
+        command,
+        streams,
+    )
 }
 
 fn report(rt: &HostRuntime, file: &str, fault: &Fault) {
     let _ = match fault {
+        Fault::Closed => Ok(()),
         Fault::Database(error) => eprintln!(rt; "{NAME}: {file}: {error}"),
         fault => eprintln!(rt; "{NAME}: {fault}"),
     };
-}
-
-fn write_output(rt: &HostRuntime, output: &[u8]) -> ExitCode {
-    match write_all(&mut Watched::new(StdIo(rt.stdout())), output) {
-        Ok(()) => ExitCode::SUCCESS,
-        Err(error) => {
-            if error.kind() != ErrorKind::BrokenPipe {
-                let _ = eprintln!(rt; "{NAME}: cannot write output");
-            }
-            ExitCode::FAILURE
-        }
-    }
 }
 
 fn run_on_file(rt: &HostRuntime, file: &str, command: &Command) -> ExitCode {
@@ -76,7 +84,7 @@ fn run_on_file(rt: &HostRuntime, file: &str, command: &Command) -> ExitCode {
         return ExitCode::FAILURE;
     }
     match run(rt, file, command) {
-        Ok(output) => write_output(rt, &output),
+        Ok(()) => ExitCode::SUCCESS,
         Err(fault) => {
             report(rt, file, &fault);
             ExitCode::FAILURE

@@ -39,6 +39,8 @@ pub enum Command {
         style: ConflictMarkerStyle,
     },
     Check,
+    /// Answers questions, each a command that reads.
+    Batch,
 }
 
 /// The output of `diff`.
@@ -65,11 +67,11 @@ pub enum UsageError {
     Memory,
     #[error("no database; expected the name of a file, and a command")]
     NoDatabase,
-    #[error("no command; expected one of import, log, heads, refs, bases, show, files, cat, diff, merge, check")]
+    #[error("no command; expected one of import, log, heads, refs, bases, show, files, cat, diff, merge, check, batch")]
     NoCommand,
     #[error("unknown option {quoted}")]
     UnknownOption { quoted: String },
-    #[error("unknown command {quoted}; expected one of import, log, heads, refs, bases, show, files, cat, diff, merge, check")]
+    #[error("unknown command {quoted}; expected one of import, log, heads, refs, bases, show, files, cat, diff, merge, check, batch")]
     UnknownCommand { quoted: String },
     #[error("too few operands; expected `{form}`")]
     Missing { form: &'static str },
@@ -298,11 +300,13 @@ fn plain_command(name: &str) -> Option<(Command, &'static str)> {
         "heads" => Some((Command::Heads, "heads")),
         "refs" => Some((Command::Refs, "refs")),
         "check" => Some((Command::Check, "check")),
+        "batch" => Some((Command::Batch, "batch")),
         _ => None,
     }
 }
 
-fn command_of(
+/// Returns the command with this name and these operands; `None` if no command has the name.
+pub fn command_of(
     alloc: Global,
     name: &String,
     operands: &[String],

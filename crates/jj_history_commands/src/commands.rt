@@ -18,7 +18,6 @@ use jj_history::ancestry::{bases, heads};
 use jj_history::describing::describe_commit;
 use jj_history::names::CommitNames;
 use jj_ids::object_id::CommitId;
-use jj_store_walks::ReadCommit;
 use std::alloc::{AllocError, Global};
 use std::collections::BTreeMap;
 
@@ -58,13 +57,13 @@ pub fn draw_log<B: Backend>(
     store: &B,
     refs: &BTreeMap<String, CommitId>,
     git_ids: &BTreeMap<String, CommitId>,
+    names: &CommitNames,
     revisions: &[String],
     files: Option<&String>,
 ) -> Result<String, CommandError> {
     let files = parse_files(alloc, files)?;
     let starts = starts_of(alloc, store, refs, git_ids, revisions)?;
-    let names = CommitNames::new(alloc, refs, git_ids)?;
-    draw_commits(alloc, store, &names, &starts, files.as_ref(), COLUMNS)
+    draw_commits(alloc, store, names, &starts, files.as_ref(), COLUMNS)
 }
 
 // Returns a line with a commit and its refs.
@@ -74,18 +73,19 @@ fn head_line(alloc: Global, names: &CommitNames, id: &CommitId) -> Result<String
     Ok(line)
 }
 
-fn head_lines(
+// Returns a line for each commit, with its refs, in order of their names.
+pub(crate) fn head_list(
     alloc: Global,
     names: &CommitNames,
     ids: &[CommitId],
-) -> Result<Vec<String>, AllocError> {
+) -> Result<String, AllocError> {
     let mut lines = Vec::new(alloc);
     for id in ids {
         let line = head_line(alloc, names, id)?;
         lines.push(line)?;
     }
     lines.sort()?;
-    Ok(lines)
+    concatenate(alloc, &lines)
 }
 
 fn concatenate(alloc: Global, lines: &[String]) -> Result<String, AllocError> {
@@ -102,13 +102,11 @@ pub fn list_heads<B: Backend>(
     alloc: Global,
     store: &B,
     refs: &BTreeMap<String, CommitId>,
-    git_ids: &BTreeMap<String, CommitId>,
+    names: &CommitNames,
 ) -> Result<String, CommandError> {
-    let names = CommitNames::new(alloc, refs, git_ids)?;
     let tips = values(alloc, refs)?;
     let ids = heads(alloc, store, tips)?;
-    let lines = head_lines(alloc, &names, &ids)?;
-    let output = concatenate(alloc, &lines)?;
+    let output = head_list(alloc, names, &ids)?;
     Ok(output)
 }
 
@@ -116,9 +114,8 @@ pub fn list_heads<B: Backend>(
 pub fn list_refs(
     alloc: Global,
     refs: &BTreeMap<String, CommitId>,
-    git_ids: &BTreeMap<String, CommitId>,
+    names: &CommitNames,
 ) -> Result<String, AllocError> {
-    let names = CommitNames::new(alloc, refs, git_ids)?;
     let mut output = String::new(alloc);
     for (name, id) in refs {
         let commit = names.name(alloc, id)?;
@@ -127,20 +124,21 @@ pub fn list_refs(
     Ok(output)
 }
 
-fn base_lines(
+// Returns a line for each commit.
+pub(crate) fn name_lines(
     alloc: Global,
     names: &CommitNames,
-    bases: &[ReadCommit],
+    ids: &[CommitId],
 ) -> Result<String, AllocError> {
     let mut output = String::new(alloc);
-    for base in bases {
-        let name = names.name(alloc, &base.id)?;
+    for id in ids {
+        let name = names.name(alloc, id)?;
         push_line(&mut output, &[name.as_str()])?;
     }
     Ok(output)
 }
 
-// Returns the merge bases of a commit and a merge of the others.
+// Returns the ids of the merge bases of a commit and a merge of the others.
 fn find_bases<B: Backend>(
     alloc: Global,
     store: &B,
@@ -148,11 +146,14 @@ fn find_bases<B: Backend>(
     git_ids: &BTreeMap<String, CommitId>,
     first: &str,
     others: &[String],
-) -> Result<Vec<ReadCommit>, CommandError> {
+) -> Result<Vec<CommitId>, CommandError> {
     let first = commit_of(alloc, store, refs, git_ids, first)?;
     let others = commits_of(alloc, store, refs, git_ids, others)?;
-    let found = bases(alloc, store, &first, &others)?;
-    Ok(found)
+    let mut ids = Vec::new(alloc);
+    for base in bases(alloc, store, &first, &others)? {
+        ids.push(base.id)?;
+    }
+    Ok(ids)
 }
 
 /// Lists the merge bases of a commit and a merge of the others, a line for each. Fails as
@@ -162,12 +163,12 @@ pub fn list_bases<B: Backend>(
     store: &B,
     refs: &BTreeMap<String, CommitId>,
     git_ids: &BTreeMap<String, CommitId>,
+    names: &CommitNames,
     first: &str,
     others: &[String],
 ) -> Result<String, CommandError> {
     let found = find_bases(alloc, store, refs, git_ids, first, others)?;
-    let names = CommitNames::new(alloc, refs, git_ids)?;
-    let output = base_lines(alloc, &names, &found)?;
+    let output = name_lines(alloc, names, &found)?;
     Ok(output)
 }
 
@@ -177,12 +178,12 @@ pub fn show_commit<B: Backend>(
     store: &B,
     refs: &BTreeMap<String, CommitId>,
     git_ids: &BTreeMap<String, CommitId>,
+    names: &CommitNames,
     revision: &str,
 ) -> Result<String, CommandError> {
     let id = commit_of(alloc, store, refs, git_ids, revision)?;
     let commit = store.read_commit(alloc, &id)?;
-    let names = CommitNames::new(alloc, refs, git_ids)?;
-    let output = describe_commit(alloc, &names, &id, &commit)?;
+    let output = describe_commit(alloc, names, &id, &commit)?;
     Ok(output)
 }
 
@@ -214,27 +215,50 @@ fn count_line(alloc: Global, counts: &ObjectCounts) -> Result<String, AllocError
     format!(in alloc; "{commits} commits, {trees} trees and {files} files are there\n")
 }
 
+// Returns whether the output of a command has names of commits.
+fn prints_names(command: &Command) -> bool {
+    match command {
+        Command::Log { .. }
+        | Command::Heads
+        | Command::Refs
+        | Command::Bases { .. }
+        | Command::Show(_) => true,
+        _ => false,
+    }
+}
+
 // Returns the output of a command that prints lines.
 fn printed<B: Backend>(
     alloc: Global,
     store: &B,
     refs: &BTreeMap<String, CommitId>,
     git_ids: &BTreeMap<String, CommitId>,
+    names: &CommitNames,
     command: &Command,
 ) -> Result<String, CommandError> {
     match command {
         Command::Log { revisions, files } => {
-            draw_log(alloc, store, refs, git_ids, revisions, files.as_ref())
+            draw_log(
+                alloc,
+                store,
+                refs,
+                git_ids,
+                names,
+                revisions,
+                files.as_ref(),
+            )
         }
-        Command::Heads => list_heads(alloc, store, refs, git_ids),
-        Command::Refs => match list_refs(alloc, refs, git_ids) {
+        Command::Heads => list_heads(alloc, store, refs, names),
+        Command::Refs => match list_refs(alloc, refs, names) {
             Ok(output) => Ok(output),
             Err(_) => Err(CommandError::Memory),
         },
         Command::Bases { first, others } => {
-            list_bases(alloc, store, refs, git_ids, first.as_str(), others)
+            list_bases(alloc, store, refs, git_ids, names, first.as_str(), others)
         }
-        Command::Show(revision) => show_commit(alloc, store, refs, git_ids, revision.as_str()),
+        Command::Show(revision) => {
+            show_commit(alloc, store, refs, git_ids, names, revision.as_str())
+        }
         Command::Files { revision, files } => {
             let files = files.as_ref();
             list_files(alloc, store, refs, git_ids, revision.as_str(), files)
@@ -244,13 +268,14 @@ fn printed<B: Backend>(
     }
 }
 
-/// Returns the output of a command that reads; that of `Import` and `Merge`, which write, is empty.
-/// Fails as the function of the command does.
-pub fn output_of<B: Backend>(
+/// Returns the output of a command that reads, with these names of the commits; that of `Import`,
+/// `Merge` and `Batch` is empty. Fails as the function of the command does.
+pub fn output_with<B: Backend>(
     alloc: Global,
     store: &B,
     refs: &BTreeMap<String, CommitId>,
     git_ids: &BTreeMap<String, CommitId>,
+    names: &CommitNames,
     command: &Command,
 ) -> Result<Vec<u8>, CommandError> {
     match command {
@@ -273,9 +298,26 @@ pub fn output_of<B: Backend>(
             files.as_ref(),
             *form,
         ),
-        command => match printed(alloc, store, refs, git_ids, command) {
+        command => match printed(alloc, store, refs, git_ids, names, command) {
             Ok(output) => Ok(output.into_bytes()),
             Err(error) => Err(error),
         },
     }
+}
+
+/// Returns the output of one command, as `output_with` does with the names by these refs and ids of
+/// Git.
+pub fn output_of<B: Backend>(
+    alloc: Global,
+    store: &B,
+    refs: &BTreeMap<String, CommitId>,
+    git_ids: &BTreeMap<String, CommitId>,
+    command: &Command,
+) -> Result<Vec<u8>, CommandError> {
+    let names = if prints_names(command) {
+        CommitNames::new(alloc, refs, git_ids)?
+    } else {
+        CommitNames::empty(alloc)
+    };
+    output_with(alloc, store, refs, git_ids, &names, command)
 }

@@ -9,5 +9,6 @@ pub mod contents;
 pub mod error;
 pub mod filesets;
 pub mod logs;
+pub mod questions;
 pub mod revisions;
 pub mod usage;

@@ -1,12 +1,15 @@
 //! The commits that operands name.
-ghost use Rattle.std.specs.Prelude.{◌≡◌, IfOk, IfSome};
+ghost use Rattle.std.specs.Prelude.{◌≡◌, ℕ, List, IfErr, IfOk, IfSome};
 ghost use Rattle.std.specs.BTreeMap.{values};
+ghost use Rattle.jj_dag.specs.NodeGraph.{IsChildFirstOrder};
+ghost use Rattle.jj_store_walks.specs.Histories.{InEachHistory};
 ghost use Rattle.jj_history_commands.specs.Operands.{AreLookedUp, IsCommitOf, IsWholeId};
+ghost use Rattle.jj_history.specs.Revisions.{IsNamed, IsRevisionError};
 
 use crate::error::CommandError;
 use jj_backend::backend::Backend;
 use jj_history::error::RevisionError;
-use jj_history::revisions::resolve;
+use jj_history::revisions::{resolve, resolve_known};
 use jj_ids::object_id::{CommitId, ObjectId};
 use jj_store_walks::history_ids;
 use std::alloc::{AllocError, Global};
@@ -23,24 +26,39 @@ pub fn values(alloc: Global, ids: &BTreeMap<String, CommitId>) -> Result<Vec<Com
     Ok(commits)
 }
 
-// Returns the ids among which prefixes are looked up: those of the commits that Git has ids for,
-// and without such ids those of the ancestors of the refs.
-fn known_ids<B: Backend>(
+// Returns the ids of the ancestors of the refs.
+fn ancestor_ids<B: Backend>(
+    alloc: Global,
+    store: &B,
+    refs: &BTreeMap<String, CommitId>,
+) -> Result<Vec<CommitId>, CommandError>
+    ensures { IfOk result (λ ids. InEachHistory (B.objects store.now)
+        (λ parents. IsChildFirstOrder parents (values refs.now) ids.items)) }
+{
+    let starts = values(alloc, refs)?;
+    let ids = history_ids(alloc, store, &starts)?;
+    Ok(ids)
+}
+
+// Returns the commit of a ref, or the only one with a prefix among the commits that Git has ids
+// for, and without such ids among the ancestors of the refs.
+fn named_commit<B: Backend>(
     alloc: Global,
     store: &B,
     refs: &BTreeMap<String, CommitId>,
     git_ids: &BTreeMap<String, CommitId>,
-) -> Result<Vec<CommitId>, CommandError>
-    ensures { IfOk result (λ ids.
-        AreLookedUp (B.objects store.now) refs.now git_ids.now ids.items) }
+    revision: &str,
+) -> Result<Result<CommitId, RevisionError>, CommandError>
+    ensures { IfOk result (λ named. (ids : List (List ℕ))
+        × AreLookedUp (B.objects store.now) refs.now git_ids.now ids
+        × IfOk named (IsNamed refs.now git_ids.now ids revision.now)
+        × IfErr named (IsRevisionError refs.now git_ids.now ids revision.now)) }
 {
     if git_ids.is_empty() {
-        let starts = values(alloc, refs)?;
-        let ids = history_ids(alloc, store, &starts)?;
-        return Ok(ids);
+        let ids = ancestor_ids(alloc, store, refs)?;
+        return Ok(resolve(alloc, refs, git_ids, &ids, revision));
     }
-    let ids = values(alloc, git_ids)?;
-    Ok(ids)
+    Ok(resolve_known(alloc, refs, git_ids, revision))
 }
 
 // Returns the revision as a whole id, if the store has a commit with it.
@@ -95,8 +113,7 @@ pub fn commit_of<B: Backend>(
     ensures commit { IfOk result
         (IsCommitOf (B.objects store.now) refs.now git_ids.now revision.now) }
 {
-    let ids = known_ids(alloc, store, refs, git_ids)?;
-    match resolve(alloc, refs, git_ids, &ids, revision) {
+    match named_commit(alloc, store, refs, git_ids, revision)? {
         Ok(id) => Ok(id),
         Err(RevisionError::Unknown { quoted }) => or_whole_id(alloc, store, revision, quoted),
         Err(error) => Err(CommandError::Revision(error)),

@@ -27,6 +27,9 @@ Keeps the history of a Git repository in an SQLite database, and answers questio
   merge A B                   merges B into A, and names the merge MERGE. `--style S` before A,
                               with S diff, snapshot or git, is that of conflict markers
   check                       reads all commits, trees and files that the refs reach
+  batch                       reads questions, a line each: a command above that only reads, and its
+                              operands after TABs; prints for each a line with `ok` or `error` and a
+                              number of bytes, that many bytes, and a line feed
 
   -h, --help                  this help
   -V, --version               the version
