@@ -11,13 +11,14 @@ use crate::error::{Error, status_of};
 use crate::graphs::acyclic_graph;
 use crate::joined_lists::{JoinedLists, write_joined};
 use crate::pieces::{are_ends, piece_at};
-use jj_dag::array_graph::{ArrayGraph, Visited};
+use jj_dag::array_graph::Visited;
+use jj_dag::ranked_graph::RankedGraph;
 use std::alloc::{AllocError, Global};
 
 // Returns the heads of each set of nodes.
 fn heads_of_each(
     alloc: Global,
-    graph: &ArrayGraph,
+    graph: &RankedGraph,
     nodes: &[usize],
     ends: &[usize],
 ) -> Result<JoinedLists, AllocError>
@@ -38,7 +39,7 @@ fn heads_of_each(
 // Returns the closest common nodes of each pair of sets.
 fn common_of_each(
     alloc: Global,
-    graph: &ArrayGraph,
+    graph: &RankedGraph,
     set1: &[usize],
     ends1: &[usize],
     set2: &[usize],

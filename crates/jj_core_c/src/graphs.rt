@@ -11,7 +11,8 @@ use crate::array_graph::{are_all_nodes, are_nodes, graph_of};
 use crate::buffers::write_indices;
 use crate::error::{Error, status_of};
 use crate::pieces::are_ends;
-use jj_dag::array_graph::{ArrayGraph, Visited};
+use jj_dag::array_graph::Visited;
+use jj_dag::ranked_graph::RankedGraph;
 use jj_dag::walk_error::WalkError;
 use std::alloc::Global;
 
@@ -20,7 +21,7 @@ pub(crate) fn acyclic_graph(
     alloc: Global,
     targets: &[usize],
     ends: &[usize],
-) -> Result<ArrayGraph, Error>
+) -> Result<RankedGraph, Error>
     ensures { MatchResult result
         (λ graph. (graph ≡ pieces_of targets.now ends.now)
         × (¬ (HasCycle (graph_of targets.now ends.now))) × AreArrays targets.now ends.now)
@@ -32,8 +33,9 @@ pub(crate) fn acyclic_graph(
     if !are_nodes(ends.len(), targets) {
         return Err(Error::Node);
     }
-    let graph = graph_of(alloc, targets, ends)?;
-    if graph.has_cycle(alloc)? {
+    let lists = graph_of(alloc, targets, ends)?;
+    let graph = RankedGraph::new(alloc, lists)?;
+    if graph.has_cycle() {
         return Err(Error::Cycle);
     }
     Ok(graph)
@@ -60,7 +62,8 @@ fn write_order(
     if !are_nodes(ends.len(), nodes) {
         return Err(Error::Node);
     }
-    let found = match graph.greatest_order(alloc, &mut Visited::new(alloc), nodes) {
+    let plain = graph.graph();
+    let found = match plain.greatest_order(alloc, &mut Visited::new(alloc), nodes) {
         Ok(found) => found,
         Err(error) => match error {
             WalkError::Node(_) => return Err(Error::Cycle),

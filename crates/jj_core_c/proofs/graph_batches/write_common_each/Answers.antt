@@ -1,4 +1,4 @@
-use Rattle.std.proofs.Common.{ℕ, List, [], get_or, length, rules, subst, sym}
+use Rattle.std.proofs.Common.{ℕ, List, [], get_or, length, rules, subst, sym, ◌≡◌, ◌∙◌, false, inr, true≢false, refl}
 use Rattle.jj_dag.specs.ArrayGraphs.{HasCycle}
 use Rattle.jj_core_c.specs.ArrayGraphs.{AreBelow, IsAcyclicGraph, graph_of}
 use Rattle.jj_core_c.specs.GraphBatches.{AreCommonOfEach, ArePairs}
@@ -27,3 +27,8 @@ returns c =
     (IsAcyclicGraph targets ends × (ArePairs set1 ends1 set2 ends2 × (AreBelow (length ends) set1 × AreBelow (length ends) set2)))
     (AreCommonOfEach (graph_of targets ends) set1 ends1 set2 ends2) lists.0 c.args.common.now c.write_joined.new.buffer c.args.common_ends.now c.write_joined.new.ends
     (length c.args.common.now) (length c.args.common_ends.now) ((valid.2, valid.1), (pairs, below)) are c.write_joined.result (c.write_joined.ensures lists.0 lists.1)
+
+pub returns-then-not-are_all_nodes : goal.returns-then-not-are_all_nodes
+returns-then-not-are_all_nodes c =
+    let not_below : c.are_all_nodes.result ≡ false = search rules in
+    (inr (λ below. true≢false (sym (c.are_all_nodes.ensures.1 below) ∙ not_below)), refl, refl)

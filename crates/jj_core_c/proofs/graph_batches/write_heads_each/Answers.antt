@@ -1,4 +1,4 @@
-use Rattle.std.proofs.Common.{ℕ, List, [], get_or, length, rules, subst, sym}
+use Rattle.std.proofs.Common.{ℕ, List, [], get_or, length, rules, subst, sym, ◌≡◌, ◌∙◌, false, inr, true≢false, refl}
 use Rattle.jj_dag.specs.ArrayGraphs.{HasCycle}
 use Rattle.jj_core_c.specs.ArrayGraphs.{AreBelow, IsAcyclicGraph, graph_of}
 use Rattle.jj_core_c.specs.GraphBatches.{AreHeadsOfEach, AreSets}
@@ -24,3 +24,8 @@ returns c =
     outcome targets ends (AreSets nodes node_ends) (AreBelow (length ends) nodes) (IsAcyclicGraph targets ends × (AreSets nodes node_ends × AreBelow (length ends) nodes))
     (AreHeadsOfEach (graph_of targets ends) nodes node_ends) lists.0 c.args.heads.now c.write_joined.new.buffer c.args.head_ends.now c.write_joined.new.ends
     (length c.args.heads.now) (length c.args.head_ends.now) ((valid.2, valid.1), (sets, below)) are c.write_joined.result (c.write_joined.ensures lists.0 lists.1)
+
+pub returns-then-not-are_nodes : goal.returns-then-not-are_nodes
+returns-then-not-are_nodes c =
+    let not_below : c.are_nodes.result ≡ false = search rules in
+    (inr (λ below. true≢false (sym (c.are_nodes.ensures.1 below) ∙ not_below)), refl, refl)

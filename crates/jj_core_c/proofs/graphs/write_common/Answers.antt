@@ -1,4 +1,4 @@
-use Rattle.std.proofs.Common.{◌<◌, length, refl, rules, subst}
+use Rattle.std.proofs.Common.{◌<◌, length, refl, rules, subst, ◌≡◌, ◌∙◌, false, inr, sym, true≢false}
 use Rattle.std.specs.Prelude.{All}
 use Rattle.jj_core_c.specs.Buffers.{Writes}
 use Rattle.jj_core_c.proofs.GraphResults.{common_of}
@@ -18,3 +18,8 @@ returns c =
     let starts : All (λ node. node < length c.args.ends.now) c.args.set1.now × All (λ node. node < length c.args.ends.now) c.args.set2.now = search rules in
     let written = subst (λ items. Writes c.args.common.now c.write_indices.new.buffer items c.write_indices.result) c.deref.ensures.value c.write_indices.ensures in
     (((valid.2, valid.1), starts), (found, common_of _ _ _ valid.0 valid.1 c.args.set1.now c.args.set2.now found c.in_ok-found.ensures.closest c.in_ok-found.ensures.ascending, written))
+
+pub returns-then-not-are_all_nodes : goal.returns-then-not-are_all_nodes
+returns-then-not-are_all_nodes c =
+    let not_below : c.are_all_nodes.result ≡ false = search rules in
+    (inr (λ below. true≢false (sym (c.are_all_nodes.ensures.1 below) ∙ not_below)), refl)
