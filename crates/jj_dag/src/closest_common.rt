@@ -35,25 +35,28 @@ pub struct NodeState {
 }
 
 impl Sides {
+    /// The first set reaches the node.
     pub const LEFT: Sides = Sides {
         left: true,
         right: false,
         below: false,
     };
 
+    /// The second set reaches the node.
     pub const RIGHT: Sides = Sides {
         left: false,
         right: true,
         below: false,
     };
 
+    /// Returns whether both sets reach the node.
     pub fn is_common(self) -> bool
         ensures { result ≡ (self.left && self.right) }
     {
         self.left && self.right
     }
 
-    // Returns the sides that a node passes to its neighbors: those of a common node are below it.
+    /// Returns the sides that a node passes to its neighbors: those of a common node are below it.
     pub fn propagated(self) -> Sides
         ensures { result ≡ propagated self }
     {
@@ -83,6 +86,7 @@ impl Sides {
 }
 
 impl NodeState {
+    /// Returns the state with more sides. If another set reaches the node now, it is pending.
     pub fn with_sides(self, added: Sides) -> NodeState
         ensures { result ≡ state_with self added }
     {
@@ -100,7 +104,7 @@ impl NodeState {
     }
 }
 
-// Returns the state of the node with this id.
+/// Returns the state of the node with this id.
 pub fn state_of<ID: Eq, M: NodeMap<ID, NodeState>>(known: &M, id: &ID) -> NodeState
     ensures { result ≡ state_at ID.eq (M.entries known.now) id.now }
 {
@@ -117,7 +121,8 @@ pub fn state_of<ID: Eq, M: NodeMap<ID, NodeState>>(known: &M, id: &ID) -> NodeSt
     }
 }
 
-// Adds to the state of a node. If another set reaches it now, it becomes pending.
+/// Adds to the state of a node. If another set reaches it now, it becomes pending. Fails if memory
+/// runs out.
 pub fn relax<T: Ord + Drop, ID: Eq + Drop, M: NodeMap<ID, NodeState>>(
     known: &mut M,
     pending: &mut BinaryHeap<T>,
@@ -147,7 +152,7 @@ pub fn relax<T: Ord + Drop, ID: Eq + Drop, M: NodeMap<ID, NodeState>>(
     Ok(())
 }
 
-// Returns the state of a pending node, and makes the node no longer pending.
+/// Returns the state of a pending node, and makes the node no longer pending.
 pub fn take_queued<ID: Eq, M: NodeMap<ID, NodeState>>(known: &mut M, id: &ID) -> Sides
     ensures sides { result ≡ (state_at ID.eq (M.entries known.old) id.now).sides }
     ensures known { IsTrue (state_at ID.eq (M.entries known.old) id.now).is_pending → (i : ID)

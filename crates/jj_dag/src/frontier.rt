@@ -28,8 +28,7 @@ pub struct Frontier {
     // All nodes that are open from the right, and others.
     pub right: Vec<usize>,
     ghost heap_order: { IsHeap (λ x y. ordering_then (nat_cmp x.0 y.0) (nat_cmp x.1 y.1))
-        (heap_items pending) } by { IsHeap-prop (λ x y. ordering_then (nat_cmp x.0 y.0) (nat_cmp x.1 y.1))
-            (heap_items pending) },
+        (heap_items pending) } by { IsHeap-prop _ _ },
 }
 
 // Returns whether a node is pending, reached from this side, and not known to be below a common

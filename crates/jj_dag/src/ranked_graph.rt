@@ -1,5 +1,5 @@
-//! Graphs in arrays whose nodes are ranked. A walk that is asked about nodes expands those only that
-//! rank above what it looks for.
+//! Graphs in arrays whose nodes are ranked. A walk expands only nodes that rank above what it looks
+//! for.
 ghost use Rattle.std.specs.Prelude.{◌≡◌, IfOk, MatchBool};
 ghost use Rattle.std.specs.List.Sorted.{IsStrictlyIncreasing};
 ghost use Rattle.jj_dag.specs.ArrayGraphs.{HasCycle, graph_of};

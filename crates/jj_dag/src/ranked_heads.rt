@@ -13,8 +13,8 @@ use crate::number_set::NumberSet;
 use crate::ranks::Ranks;
 use std::alloc::{AllocError, Global};
 
-/// Leaves in the first set the starts that no other of them reaches. Both sets must be empty before.
-/// Fails if memory runs out.
+/// Leaves in the first set the starts that no other of them reaches. Both sets must be empty
+/// before. Fails if memory runs out.
 pub fn ranked_heads_in(
     alloc: Global,
     graph: &ArrayGraph,

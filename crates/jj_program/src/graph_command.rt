@@ -196,7 +196,7 @@ pub(crate) fn graph_output(alloc: Global, text: &str) -> Result<Vec<u8>, Failure
     let requested = requested_ids(alloc, &requests)?;
     let graph = ListedGraph::new(alloc, &edges, &requested)?;
     let mut visited = Visited::new(alloc);
-    let cyclic = graph.has_cycle(alloc)?;
+    let cyclic = graph.has_cycle();
     let mut output = String::new(alloc);
     for request in &requests {
         if cyclic {

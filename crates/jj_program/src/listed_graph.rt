@@ -14,6 +14,7 @@ use crate::edges::Edges;
 use crate::numbering::Numbering;
 use jj_dag::array_graph::{ArrayGraph, Visited};
 use jj_dag::packed_lists::PackedLists;
+use jj_dag::ranked_graph::RankedGraph;
 use jj_dag::walk_error::WalkError;
 use std::alloc::{AllocError, Global};
 
@@ -21,7 +22,7 @@ use std::alloc::{AllocError, Global};
 #[derive(Drop)]
 pub(crate) struct ListedGraph {
     numbering: Numbering,
-    graph: ArrayGraph,
+    graph: RankedGraph,
     ghost within: { AreWithin numbering.ids.items graph },
 }
 
@@ -39,16 +40,17 @@ impl ListedGraph {
     {
         let numbering = Numbering::new(alloc, edges.limit(), requested, edges.targets())?;
         let lists = numbered_lists(alloc, edges, &numbering)?;
-        let graph = ArrayGraph::new(lists);
+        let array = ArrayGraph::new(lists);
+        let graph = RankedGraph::new(alloc, array)?;
         Ok(ListedGraph { numbering, graph })
     }
 
     // Whether the graph has a cycle anywhere.
-    pub(crate) fn has_cycle(&self, alloc: Global) -> Result<bool, AllocError>
-        ensures { IfOk result (λ cyclic. MatchBool cyclic (HasCycle (numbered_by self.now))
-            (¬ (HasCycle (numbered_by self.now)))) }
+    pub(crate) fn has_cycle(&self) -> bool
+        ensures { MatchBool result (HasCycle (numbered_by self.now))
+            (¬ (HasCycle (numbered_by self.now))) }
     {
-        self.graph.has_cycle(alloc)
+        self.graph.has_cycle()
     }
 
     // Returns the lexicographically greatest topological order of the nodes reachable from `ids`.
@@ -64,7 +66,8 @@ impl ListedGraph {
             → IsGreatestTopologicalOrder shown ids.now order.items) }
     {
         let starts = self.numbering.numbers_of(alloc, ids)?;
-        match self.graph.greatest_order(alloc, visited, &starts) {
+        let plain = self.graph.graph();
+        match plain.greatest_order(alloc, visited, &starts) {
             Ok(order) => self.numbering.ids_of(alloc, &order),
             Err(error) => match error {
                 WalkError::Memory => Err(AllocError),

@@ -24,10 +24,10 @@ loop-request-preserved c = λ shown is_shown.
     AreLinesOf-more (IsGraphLine shown) graph_request_of items i c.request-item.result old grown answer within c.request-item.is (c.loop-request.invariant shown is_shown) is written in
     elim c.if-cyclic.branch [
       | then-cyclic+in_ok-push_str w ↦
-          more (string_bytes c.if-cyclic.output) (line_text (codes "cycle") []) (inl (cycle_shown graph shown is_shown (rw w.if-cyclic.true at c.in_ok-cyclic.ensures), refl)) (ap string_bytes w.output-is ∙ w.in_ok-push_str.ensures.bytes)
+          more (string_bytes c.if-cyclic.output) (line_text (codes "cycle") []) (inl (cycle_shown graph shown is_shown (rw w.if-cyclic.true at c.has_cycle-cyclic.ensures), refl)) (ap string_bytes w.output-is ∙ w.in_ok-push_str.ensures.bytes)
       | else-cyclic+in_ok-push_result w ↦
           let (answer, is, written) = w.in_ok-push_result.ensures in
-          more (string_bytes c.if-cyclic.output) answer (inr ((λ cycle. (rw w.if-cyclic.false at c.in_ok-cyclic.ensures) (cycle_numbered graph shown is_shown cycle)), is shown is_shown)) (ap string_bytes w.output-is ∙ written)
+          more (string_bytes c.if-cyclic.output) answer (inr ((λ cycle. (rw w.if-cyclic.false at c.has_cycle-cyclic.ensures) (cycle_numbered graph shown is_shown cycle)), is shown is_shown)) (ap string_bytes w.output-is ∙ written)
     ]
 
 pub push_result-requires-clause-named : goal.push_result-requires-clause-named

@@ -16,13 +16,13 @@ invariant_of-result c =
     let ids = c.in_ok-numbering.numbering.ids.items in
     let named = neighbors_named c.args.edges.now ids (subst (All (Contains ids)) c.targets.ensures c.in_ok-numbering.ensures.targets) in
     record {
-      within = subst (AreWithin ids) (sym c.new-graph.ensures) (lists_within ids (lists_of c.in_ok-lists.lists) (graph_of (listed_by c.args.edges.now)) c.in_ok-lists.ensures named);
+      within = subst (AreWithin ids) (sym (c.in_ok-graph.ensures ∙ c.new-array.ensures)) (lists_within ids (lists_of c.in_ok-lists.lists) (graph_of (listed_by c.args.edges.now)) c.in_ok-lists.ensures named);
     }
 
 pub returns-clause-graph : goal.returns-clause-graph
 returns-clause-graph c =
     let ids = c.in_ok-numbering.numbering.ids.items in
     record {
-      lists = ap (map (map (id_of ids))) c.new-graph.ensures ∙ c.in_ok-lists.ensures;
+      lists = ap (map (map (id_of ids))) (c.in_ok-graph.ensures ∙ c.new-array.ensures) ∙ c.in_ok-lists.ensures;
       named = neighbors_named c.args.edges.now ids (subst (All (Contains ids)) c.targets.ensures c.in_ok-numbering.ensures.targets);
     }
