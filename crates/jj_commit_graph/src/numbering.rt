@@ -27,7 +27,7 @@ impl Numbering {
         }
     }
 
-    // Gives the next number to an id.
+    // Assigns the next number to an id.
     pub(crate) fn push(&mut self, id: CommitId) -> Result<(), AllocError>
         requires numbering { IsNumbering self.old }
         requires new { ¬ (Contains self.old.ids.items id) }
